@@ -1,0 +1,4 @@
+pub mod Outside
+pub mod Records
+pub mod Tables
+pub mod Answer
