@@ -1,0 +1,4 @@
+pub mod Pinned
+pub mod Machine
+pub mod History
+pub mod Laws
