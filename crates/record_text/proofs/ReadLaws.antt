@@ -1,0 +1,228 @@
+-- What a reader has used of its script, line by line.
+use Rattle.std.proofs.Common.{◌≡◌, ◌≢◌, ℕ, zero, suc, ◌+◌, ◌-◌, ◌<◌, ◌≤◌, ◌^◌, Bool, true, false, List, [], ◌∷◌, ◌++◌, length, take, drop, refl, sym, ap, ◌∙◌, subst, arith, inl, inr, ◌⊎◌, length-take, length-drop, append-nil, append_assoc, take-append-drop, take-add}
+use Rattle.std.specs.Prelude.{Option, Ok, Err, Result, nat_le}
+use Rattle.std.specs.declared.option.Option.TheVariants.{Some, None}
+use Rattle.std.proofs.lemmas.Bool.Decides.{nat_tests}
+use Rattle.std.proofs.Math.Seq.{take-nil}
+use Rattle.definitions.specs.Outside.{Told}
+use Rattle.definitions.specs.Records.{text_of}
+use Rattle.definitions.proofs.ToldBytes.{told_same, told_then, told_with}
+use Rattle.record_text.specs.Lines.{EndsLine, HasNoLine}
+use Rattle.record_text.specs.Table.{asked, command_of, IsForm}
+use Rattle.record_text.specs.Script.{Awaits, ACommand, ARecord, Script, Faulty, Done, from_line, step, finish, after_records, with_command, fits_command}
+use Rattle.record_text.specs.Reading.{IsLine, Goes, Comes, Sound, Used, Uses, Stops, RecordsAre, CommandIs, NextLineIs, NextTold, NextTaken, SamePlace, to_come, script_after}
+use Rattle.record_text.specs.declared.command.Command.{Command}
+use Rattle.record_text.specs.declared.reading.Reading.{Reading}
+use Rattle.record_text.specs.declared.script_fault.ScriptFault.{ScriptFault}
+use Rattle.record_text.specs.declared.script_fault.Why.{Why}
+use Rattle.record_text.specs.declared.script_fault.Why.TheVariants.{ShortInput, WindowLarge, Read, Mem}
+use Rattle.record_text.specs.declared.table.Head.{Head}
+use Rattle.record_text.specs.declared.table.Asked.TheVariants.{Asks, Refuses}
+use Rattle.record_text.proofs.LineLaws.{EndsLine-append}
+use Rattle.record_text.proofs.ScriptLaws.{one_read, all_read, step-record, step-large, step-asks, step-refuses, from_line-none, length_append, drop_exact}
+
+abbrev IsTrueTest : Bool → Type 0
+IsTrueTest true = Unit {0}
+IsTrueTest false = ⊥
+
+abbrev IsRead : Why → Type 0
+IsRead Read = Unit {0}
+IsRead other = ⊥
+
+pub true_false : {A : Type 0} → true ≡ false → A
+true_false e = absurd (subst IsTrueTest e tt)
+
+pub form_not_read : (why : Why) → IsForm why → why ≢ Read
+form_not_read why form e = subst IsForm e form
+
+-- nothing was used
+pub uses_none : (a : Reading) (l : Option (List ℕ)) → Uses a a l l []
+uses_none a l = record {
+  bytes = record { bytes = told_same l (λ x y. a.ahead ++ x ≡ [] ++ (a.ahead ++ y)) (λ x. refl); stays = λ is. (is, refl); ends = λ is. refl };
+  count = omega arith;
+}
+
+-- more was used
+pub used_then : (a b c : Bool) (ha hb hc : List ℕ) (la lb lc : Option (List ℕ)) (u v : List ℕ) → Used a b ha hb la lb u → Used b c hb hc lb lc v → Used a c ha hc la lc (u ++ v)
+used_then a b c ha hb hc la lb lc u v p q = record {
+  bytes = told_then la lb lc (λ l m. ha ++ l ≡ u ++ (hb ++ m)) (λ l m. hb ++ l ≡ v ++ (hc ++ m)) (λ l m. ha ++ l ≡ (u ++ v) ++ (hc ++ m))
+      (λ x y z f g. f ∙ ap (λ (l : List ℕ). u ++ l) g ∙ sym (append_assoc u v (hc ++ z))) p.bytes q.bytes;
+  stays = λ is. let s = p.stays is in let t = q.stays s.0 in (t.0, s.1 ∙ ap (λ (l : List ℕ). u ++ l) t.1 ∙ sym (append_assoc u v hc));
+  ends = λ is. EndsLine-append u v (p.ends (before b q is)) (q.ends is);
+}
+  where
+    before : (b : Bool) → Used b c hb hc lb lc v → c ≡ false → b ≡ false
+    before true q is = true_false (sym (q.stays refl).0 ∙ is)
+    before false q is = refl
+
+pub uses_then : (a b c : Reading) (la lb lc : Option (List ℕ)) (u v : List ℕ) → Uses a b la lb u → Uses b c lb lc v → Uses a c la lc (u ++ v)
+uses_then a b c la lb lc u v p q = record {
+  bytes = used_then a.ended b.ended c.ended a.ahead b.ahead c.ahead la lb lc u v p.bytes q.bytes;
+  count = omega (arith, p.count, q.count, length_append u v);
+}
+
+pub uses_more : (a b c : Reading) (la lb lc : Option (List ℕ)) (u : List ℕ) → Uses a b la lb u → Uses b c lb lc [] → Uses a c la lc u
+uses_more a b c la lb lc u p q = subst (λ (l : List ℕ). Uses a c la lc l) (append-nil u) (uses_then a b c la lb lc u [] p q)
+
+-- a line ahead was used
+module _ (r s : Reading) (left : Option (List ℕ)) (len skip : ℕ) (line : IsLine r.ended r.ahead len skip) (ahead : s.ahead ≡ drop skip r.ahead) (room : s.room ≡ r.room) (ended : s.ended ≡ r.ended) where
+  used_line : Used r.ended r.ended r.ahead (drop skip r.ahead) left left (take skip r.ahead)
+  used_line = record {
+    bytes = told_same left (λ l m. r.ahead ++ l ≡ take skip r.ahead ++ (drop skip r.ahead ++ m)) (λ x. ap (λ (l : List ℕ). l ++ x) (sym (take-append-drop skip r.ahead)) ∙ append_assoc (take skip r.ahead) (drop skip r.ahead) x);
+    stays = λ is. (is, sym (take-append-drop skip r.ahead));
+    ends = line.ends;
+  }
+
+  pub uses_line : Uses r s left left (take skip r.ahead)
+  uses_line = record {
+    bytes = subst (λ (e : Bool). Used r.ended e r.ahead s.ahead left left (take skip r.ahead)) (sym ended)
+        (subst (λ (h : List ℕ). Used r.ended r.ended r.ahead h left left (take skip r.ahead)) (sym ahead) used_line);
+    count = let n = ap (λ (h : List ℕ). length h) ahead in omega (arith, n, room, length-take skip r.ahead, length-drop skip r.ahead, line.within);
+  }
+
+  pub sound_line : Sound r left → s.line ≡ r.line + 1 → Sound s left
+  sound_line sound next = record {
+    empty = λ e. sound.empty (sym ended ∙ e);
+    more = λ e. let m = sound.more (sym ended ∙ e) in omega (arith, m, room);
+    size = let n = ap (λ (h : List ℕ). length h) ahead in omega (arith, n, room, next, sound.size, length-drop skip r.ahead, line.within, line.some);
+  }
+
+  pub goes_line : (full : Bool) (x : List ℕ) → Goes s.ended s.ahead full x → Goes r.ended (drop skip r.ahead) full x
+  goes_line full x goes e = let g = goes (ended ∙ e) in (g.0, g.1 ∙ ahead)
+
+-- what comes behind the bytes ahead of a reader
+pub goes_on : (s : Reading) (full : Bool) (x : List ℕ) → Comes s.ended s.room full x → Goes s.ended s.ahead full (s.ahead ++ x)
+goes_on s full x comes e = let c = comes.0 e in (c.0, ap (λ (l : List ℕ). s.ahead ++ l) c.1 ∙ append-nil s.ahead)
+
+-- some record lines of the command on line `at` were read, `left` are still to come
+abbrev pub IsReading : ℕ → ℕ → Reading → ℕ → List (List ℕ) → List ℕ → Type 0
+IsReading at n s left got used = (head : Head) (full : Bool) (x : List ℕ) → Goes s.ended s.ahead full x → after_records at head n [] (λ next. from_line full next (at + 1) (used ++ x)) ≡ after_records at head left got (λ next. from_line full next (s.line + 1) x)
+
+-- before another record line: r is the state before a look for it, s behind
+module _ (at n left : ℕ) (r s : Reading) (got : List (List ℕ)) (used : List ℕ) (lr ls : Option (List ℕ)) (reading : IsReading at n r left got used) (looks : Uses r s lr ls []) (place : SamePlace r s) (some : 0 < left) where
+  -- up to the next line
+  up_to : (head : Head) (full : Bool) (y : List ℕ) → Goes s.ended s.ahead full y → after_records at head n [] (λ next. from_line full next (at + 1) (used ++ y)) ≡ from_line full (ARecord at head (left - 1) got) (s.line + 1) y
+  up_to head full y goes =
+      reading head full y (λ e. let st = looks.bytes.stays e in let g = goes st.0 in (g.0, g.1 ∙ sym st.1))
+      ∙ one_read at head left got (λ next. from_line full next (r.line + 1) y) some
+      ∙ ap (λ (m : ℕ). from_line full (ARecord at head (left - 1) got) (m + 1) y) (sym place.line)
+
+  -- the script ends there
+  pub short : (s.ended ≡ true) × (s.ahead ≡ []) → (head : Head) → Stops s.ended s.room used s.ahead (λ full x. after_records at head n [] (λ next. from_line full next (at + 1) x)) (record { line = at; why = ShortInput })
+  short end head = inr (inr (
+    (λ e. subst IsRead (sym e) tt),
+    λ full x comes.
+        let c = comes.0 end.0 in
+        up_to head full (s.ahead ++ x) (goes_on s full x comes)
+        ∙ (λ i. from_line (c.0 i) (ARecord at head (left - 1) got) (s.line + 1) (end.1 i ++ c.1 i))
+        ∙ from_line-none (ARecord at head (left - 1) got) (s.line + 1),
+  ))
+
+  -- there is a fault in its place
+  pub stops : (fault : ScriptFault) → NextLineIs r.line s.ended s.room s.ahead (Err fault) → (head : Head) → Stops s.ended s.room used s.ahead (λ full x. after_records at head n [] (λ next. from_line full next (at + 1) x)) fault
+  stops fault (inl mem) head = inl mem
+  stops fault (inr (inl read)) head = inr (inl (
+    read.0,
+    read.1,
+    read.2,
+    read.3,
+    ap (λ (l : List ℕ). (after_records at head n [] (λ next. from_line false next (at + 1) l)).0) (sym (append-nil used))
+        ∙ ap (λ (t : Script). t.0) (up_to head false [] (λ e. true_false (sym e ∙ read.1)) ∙ from_line-none (ARecord at head (left - 1) got) (s.line + 1)),
+  ))
+  stops fault (inr (inr other)) head = inr (inr (
+    other.0,
+    λ full x comes.
+        up_to head full (s.ahead ++ x) (goes_on s full x comes)
+        ∙ ap (λ (m : ℕ). from_line full (ARecord at head (left - 1) got) (m + 1) (s.ahead ++ x)) place.line
+        ∙ other.1 full x (ARecord at head (left - 1) got) comes,
+  ))
+
+  -- the line is used
+  module _ (t : Reading) (len skip : ℕ) (line : IsLine s.ended s.ahead len skip) (ahead : t.ahead ≡ drop skip s.ahead) (room : t.room ≡ s.room) (ended : t.ended ≡ s.ended) (next : t.line ≡ s.line + 1) (more : List (List ℕ)) (pushed : more ≡ got ++ take len s.ahead ∷ []) where
+    up_to_step : (head : Head) (full : Bool) (x : List ℕ) → Goes t.ended t.ahead full x → after_records at head n [] (λ next. from_line full next (at + 1) ((used ++ take skip s.ahead) ++ x)) ≡ step (ARecord at head (left - 1) got) (s.line + 1) (take len s.ahead) (λ next. from_line full next (t.line + 1) x)
+    up_to_step head full x goes =
+        let on = goes_line s t ls len skip line ahead room ended full x goes in
+        ap (λ (l : List ℕ). after_records at head n [] (λ next. from_line full next (at + 1) l)) (append_assoc used (take skip s.ahead) x)
+        ∙ up_to head full (take skip s.ahead ++ x) (λ e. let g = on e in (g.0, ap (λ (l : List ℕ). take skip s.ahead ++ l) g.1 ∙ take-append-drop skip s.ahead))
+        ∙ line.reads full x (ARecord at head (left - 1) got) (s.line + 1) on
+        ∙ ap (λ (m : ℕ). step (ARecord at head (left - 1) got) (s.line + 1) (take len s.ahead) (λ next. from_line full next (m + 1) x)) (sym next)
+
+    pub reads_line : (left' : ℕ) → left' ≡ left - 1 → fits_command more ≡ true → IsReading at n t left' more (used ++ take skip s.ahead)
+    reads_line left' fewer fits head full x goes =
+        up_to_step head full x goes
+        ∙ step-record at head (left - 1) got (s.line + 1) (take len s.ahead) (λ next. from_line full next (t.line + 1) x) (ap fits_command (sym pushed) ∙ fits)
+        ∙ (λ i. after_records at head (sym fewer i) (sym pushed i) (λ next. from_line full next (t.line + 1) x))
+
+    pub large : fits_command more ≡ false → (head : Head) → Stops t.ended t.room (used ++ take skip s.ahead) t.ahead (λ full x. after_records at head n [] (λ next. from_line full next (at + 1) x)) (record { line = at; why = WindowLarge })
+    large fits head = inr (inr (
+      (λ e. subst IsRead (sym e) tt),
+      λ full x comes.
+          up_to_step head full (t.ahead ++ x) (goes_on t full x comes)
+          ∙ step-large at head (left - 1) got (s.line + 1) (take len s.ahead) (λ next. from_line full next (t.line + 1) (t.ahead ++ x)) (ap fits_command (sym pushed) ∙ fits),
+    ))
+
+-- all record lines were read
+pub records_are : (at n : ℕ) (s : Reading) (left : ℕ) (got : List (List ℕ)) (used : List ℕ) → IsReading at n s left got used → left ≡ 0 → RecordsAre at n s.line s.ended s.room used s.ahead (Ok got)
+records_are at n s left got used reading none head full x goes = reading head full x goes ∙ all_read at head left got (λ next. from_line full next (s.line + 1) x) none
+
+-- a command line: r is the state before a look for it, s behind, and t where the line is used
+module _ (r s t : Reading) (lr ls : Option (List ℕ)) (looks : Uses r s lr ls []) (place : SamePlace r s) where
+  pub command_stops : (last : ℕ) (fault : ScriptFault) → NextLineIs r.line s.ended s.room s.ahead (Err fault) → CommandIs r.line s.line last s.ended s.room [] s.ahead (Err fault)
+  command_stops last fault (inl mem) = inl mem
+  command_stops last fault (inr (inl read)) = inr (inl (read.0, read.1, read.2, read.3, ap (λ (x : Script). x.0) (from_line-none ACommand (r.line + 1))))
+  command_stops last fault (inr (inr other)) = inr (inr (other.0, λ full x comes. other.1 full x ACommand comes))
+
+  module _ (len skip : ℕ) (line : IsLine s.ended s.ahead len skip) (ahead : t.ahead ≡ drop skip s.ahead) (room : t.room ≡ s.room) (ended : t.ended ≡ s.ended) (next : t.line ≡ s.line + 1) where
+    num : t.line ≡ r.line + 1
+    num = next ∙ ap (λ (m : ℕ). m + 1) place.line
+
+    begin : (full : Bool) (y : List ℕ) → Goes t.ended t.ahead full y → from_line full ACommand (r.line + 1) (take skip s.ahead ++ y) ≡ step ACommand t.line (take len s.ahead) (λ next. from_line full next (t.line + 1) y)
+    begin full y goes =
+        line.reads full y ACommand (r.line + 1) (goes_line s t ls len skip line ahead room ended full y goes)
+        ∙ ap (λ (m : ℕ). step ACommand m (take len s.ahead) (λ next. from_line full next (m + 1) y)) (sym num)
+
+    pub refuses : (last : ℕ) (why : Why) → asked (take len s.ahead) ≡ Refuses why → IsForm why → CommandIs r.line t.line last t.ended t.room (take skip s.ahead) t.ahead (Err (record { line = t.line; why = why }))
+    refuses last why is form = inr (inr (
+      form_not_read why form,
+      λ full x comes.
+          begin full (t.ahead ++ x) (goes_on t full x comes)
+          ∙ step-refuses t.line (take len s.ahead) (λ next. from_line full next (t.line + 1) (t.ahead ++ x)) why is,
+    ))
+
+    -- its record lines: u is the state behind them
+    module _ (head : Head) (n : ℕ) (is : asked (take len s.ahead) ≡ Asks head n) (u : Reading) (lu : Option (List ℕ)) (used : List ℕ) (rest : Uses t u ls lu used) where
+      up_to_records : (full : Bool) (y : List ℕ) → Goes t.ended t.ahead full y → from_line full ACommand (r.line + 1) (take skip s.ahead ++ y) ≡ after_records t.line head n [] (λ next. from_line full next (t.line + 1) y)
+      up_to_records full y goes = begin full y goes ∙ step-asks t.line (take len s.ahead) (λ next. from_line full next (t.line + 1) y) head n is
+
+      pub command_is : (got : List (List ℕ)) → RecordsAre t.line n u.line u.ended u.room used u.ahead (Ok got) → CommandIs r.line u.line t.line u.ended u.room (take skip s.ahead ++ used) u.ahead (Ok (Some (command_of head got)))
+      command_is got records full x goes =
+          ap (λ (l : List ℕ). from_line full ACommand (r.line + 1) l) (append_assoc (take skip s.ahead) used x)
+          ∙ up_to_records full (used ++ x) (λ e. let st = rest.bytes.stays e in let g = goes st.0 in (g.0, ap (λ (l : List ℕ). used ++ l) g.1 ∙ sym st.1))
+          ∙ records head full x goes
+
+      pub records_stop : (last : ℕ) (fault : ScriptFault) → RecordsAre t.line n u.line u.ended u.room used u.ahead (Err fault) → CommandIs r.line u.line last u.ended u.room (take skip s.ahead ++ used) u.ahead (Err fault)
+      records_stop last fault records = stopped (records head)
+        where
+          stopped : Stops u.ended u.room used u.ahead (λ full x. after_records t.line head n [] (λ next. from_line full next (t.line + 1) x)) fault → CommandIs r.line u.line last u.ended u.room (take skip s.ahead ++ used) u.ahead (Err fault)
+          stopped (inl mem) = inl mem
+          stopped (inr (inl read)) = inr (inl (
+            read.0,
+            read.1,
+            read.2,
+            read.3,
+            ap (λ (x : Script). x.0) (up_to_records false used (λ e. true_false (sym (rest.bytes.stays e).0 ∙ read.1))) ∙ read.4,
+          ))
+          stopped (inr (inr other)) = inr (inr (
+            other.0,
+            λ full x comes.
+                ap (λ (l : List ℕ). from_line full ACommand (r.line + 1) l) (append_assoc (take skip s.ahead) used (u.ahead ++ x))
+                ∙ up_to_records full (used ++ (u.ahead ++ x)) (λ e. let st = rest.bytes.stays e in let g = goes_on u full x comes st.0 in (g.0, ap (λ (l : List ℕ). used ++ l) g.1 ∙ sym st.1))
+                ∙ other.1 full x comes,
+          ))
+
+-- whether the records of a command fit, by their text
+pub fits_not : (records : List (List ℕ)) (n : ℕ) → n ≡ length (text_of records) → 268435456 < n → fits_command records ≡ false
+fits_not records n is large = grind (arith, nat_tests)
+
+pub fits_all : (records : List (List ℕ)) (n : ℕ) → n ≡ length (text_of records) → n ≤ 268435456 → fits_command records ≡ true
+fits_all records n is small = grind (arith, nat_tests)

@@ -1,0 +1,63 @@
+use Rattle.std.proofs.Common.{◌≡◌, ◌≤◌, ◌<◌, ◌+◌, ◌-◌, [], ◌∷◌, ◌++◌, length, drop, take, List, ℕ, arith, refl, sym, ap, ◌∙◌, subst}
+use Rattle.std.specs.Prelude.{Ok, Err}
+use Rattle.std.specs.declared.option.Option.TheVariants.{Some, None}
+use Rattle.record_text.specs.Reading.{CommandIs}
+use Rattle.record_text.specs.Table.{asked, RefusesForm}
+use Rattle.record_text.specs.declared.command.Command.{Command}
+use Rattle.record_text.specs.declared.reading.Reading.{Reading}
+use Rattle.record_text.proofs.ReadLaws.{uses_then, uses_line, command_stops, refuses, command_is, records_stop}
+use Rattle.record_text.proofs.script_reader.ScriptReader.command.Goals as goal
+
+pub returns-in-Err-clause-reads : goal.returns-in-Err-clause-reads
+returns-in-Err-clause-reads g c =
+    let r = c.args.self.now.reading in let s = c.next_line.new.self.reading in
+    let e = c.in-Err.ensures in
+    ([], e.used, command_stops r s s (g.S.Source.left c.args.self.now.source.now) (g.S.Source.left c.next_line.new.self.source.now) e.used e.place s.last c.in-Err.fault e.line)
+
+pub returns-in-Refuses-clause-reads : goal.returns-in-Refuses-clause-reads
+returns-in-Refuses-clause-reads g c =
+    let r = c.args.self.now.reading in let s = c.next_line.new.self.reading in
+    let lr = g.S.Source.left c.args.self.now.source.now in let ls = g.S.Source.left c.next_line.new.self.source.now in
+    let e = c.in-Ok-Some.ensures in
+    let len = c.in-Ok-Some.line.0 in let skip = c.in-Ok-Some.line.1 in
+    let is = rw c.in-Ok-Some.field-0-is at e.line in
+    let t : Reading = record s { ahead = c.skip.new.self; line = s.line + 1 } in
+    let asks = sym (c.ask-asked.ensures.asked ∙ ap asked c.front.ensures) ∙ c.in-Refuses.is in (
+      take skip s.ahead,
+      uses_then r s t lr ls ls [] (take skip s.ahead) e.used (uses_line s t ls len skip is c.skip.ensures refl refl),
+      refuses r s t lr ls e.used e.place len skip is c.skip.ensures refl refl refl s.last c.in-Refuses.why asks (subst RefusesForm c.in-Refuses.is c.ask-asked.ensures.form),
+    )
+
+pub returns-in-Ok-clause-reads : goal.returns-in-Ok-clause-reads
+returns-in-Ok-clause-reads g c =
+    let r = c.args.self.now.reading in let s = c.next_line.new.self.reading in let u = c.read_records.new.self.reading in
+    let lr = g.S.Source.left c.args.self.now.source.now in let ls = g.S.Source.left c.next_line.new.self.source.now in let lu = g.S.Source.left c.read_records.new.self.source.now in
+    let e = c.in-Ok-Some.ensures in
+    let len = c.in-Ok-Some.line.0 in let skip = c.in-Ok-Some.line.1 in
+    let is = rw c.in-Ok-Some.field-0-is at e.line in
+    let t : Reading = record s { ahead = c.skip.new.self; line = s.line + 1 } in
+    let asks = sym (c.ask-asked.ensures.asked ∙ ap asked c.front.ensures) ∙ c.in-Asks.is in
+    let reads = c.in-Ok.ensures.reads in let used = reads.0 in
+    let first = uses_then r s t lr ls ls [] (take skip s.ahead) e.used (uses_line s t ls len skip is c.skip.ensures refl refl) in
+    let all = uses_then r t u lr ls lu (take skip s.ahead) used first reads.1 in (
+      take skip s.ahead ++ used,
+      record { bytes = all.bytes; count = all.count },
+      subst (λ (x : Command). CommandIs r.line u.line t.line u.ended u.room (take skip s.ahead ++ used) u.ahead (Ok (Some x))) (sym c.command.ensures)
+          (command_is r s t lr ls e.used e.place len skip is c.skip.ensures refl refl refl c.in-Asks.head c.in-Asks.n asks u lu used reads.1 c.in-Ok.got reads.2),
+    )
+
+pub returns-in-Err-read_records-clause-reads : goal.returns-in-Err-read_records-clause-reads
+returns-in-Err-read_records-clause-reads g c =
+    let r = c.args.self.now.reading in let s = c.next_line.new.self.reading in let u = c.read_records.new.self.reading in
+    let lr = g.S.Source.left c.args.self.now.source.now in let ls = g.S.Source.left c.next_line.new.self.source.now in let lu = g.S.Source.left c.read_records.new.self.source.now in
+    let e = c.in-Ok-Some.ensures in
+    let len = c.in-Ok-Some.line.0 in let skip = c.in-Ok-Some.line.1 in
+    let is = rw c.in-Ok-Some.field-0-is at e.line in
+    let t : Reading = record s { ahead = c.skip.new.self; line = s.line + 1 } in
+    let asks = sym (c.ask-asked.ensures.asked ∙ ap asked c.front.ensures) ∙ c.in-Asks.is in
+    let reads = c.in-Err-read_records.ensures.reads in let used = reads.0 in
+    let first = uses_then r s t lr ls ls [] (take skip s.ahead) e.used (uses_line s t ls len skip is c.skip.ensures refl refl) in (
+      take skip s.ahead ++ used,
+      uses_then r t u lr ls lu (take skip s.ahead) used first reads.1,
+      records_stop r s t lr ls e.used e.place len skip is c.skip.ensures refl refl refl c.in-Asks.head c.in-Asks.n asks u lu used reads.1 u.last c.in-Err-read_records.fault reads.2,
+    )

@@ -1,0 +1,68 @@
+use Rattle.std.proofs.Common.{◌≡◌, ◌≤◌, ◌<◌, ◌+◌, ◌-◌, [], ◌∷◌, ◌++◌, length, drop, take, List, ℕ, arith, refl, sym, ap, ◌∙◌}
+use Rattle.record_text.specs.declared.reading.Reading.{Reading}
+use Rattle.record_text.proofs.SpanLaws.{length_push}
+use Rattle.record_text.proofs.ReadLaws.{uses_more, uses_then, uses_line, sound_line, short, stops, reads_line, large, fits_not, fits_all}
+use Rattle.record_text.proofs.script_reader.ScriptReader.read_records.Goals as goal
+
+pub returns-in-Ok-None-clause-reads : goal.returns-in-Ok-None-clause-reads
+returns-in-Ok-None-clause-reads g c =
+    let bytes = c.lines.invariant.0 in let inv = c.lines.invariant.1 in
+    let s0 = c.args.self.now.reading in let s1 = c.lines.self.reading in let s2 = c.next_line.new.self.reading in
+    let l0 = g.S.Source.left c.args.self.now.source.now in let l1 = g.S.Source.left c.lines.self.source.now in let l2 = g.S.Source.left c.next_line.new.self.source.now in
+    let e = c.in-Ok-None.ensures in (
+      bytes,
+      uses_more s0 s1 s2 l0 l1 l2 bytes inv.used e.used,
+      short s0.line c.args.n (c.args.n - c.lines.counter) s1 s2 c.lines.got bytes l1 l2 inv.reads e.used e.place (omega (arith, c.lines-test.true)) (rw c.in-Ok-None.field-0-is at e.line),
+    )
+
+pub returns-in-Err-clause-reads : goal.returns-in-Err-clause-reads
+returns-in-Err-clause-reads g c =
+    let bytes = c.lines.invariant.0 in let inv = c.lines.invariant.1 in
+    let s0 = c.args.self.now.reading in let s1 = c.lines.self.reading in let s2 = c.next_line.new.self.reading in
+    let l0 = g.S.Source.left c.args.self.now.source.now in let l1 = g.S.Source.left c.lines.self.source.now in let l2 = g.S.Source.left c.next_line.new.self.source.now in
+    let e = c.in-Err.ensures in (
+      bytes,
+      uses_more s0 s1 s2 l0 l1 l2 bytes inv.used e.used,
+      stops s0.line c.args.n (c.args.n - c.lines.counter) s1 s2 c.lines.got bytes l1 l2 inv.reads e.used e.place (omega (arith, c.lines-test.true)) c.in-Err.fault e.line,
+    )
+
+pub returns-then-text_len-gt-MOST_TEXT-clause-reads : goal.returns-then-text_len-gt-MOST_TEXT-clause-reads
+returns-then-text_len-gt-MOST_TEXT-clause-reads g c =
+    let bytes = c.lines.invariant.0 in let inv = c.lines.invariant.1 in
+    let s0 = c.args.self.now.reading in let s1 = c.lines.self.reading in let s2 = c.next_line.new.self.reading in
+    let l0 = g.S.Source.left c.args.self.now.source.now in let l1 = g.S.Source.left c.lines.self.source.now in let l2 = g.S.Source.left c.next_line.new.self.source.now in
+    let e = c.in-Ok-Some.ensures in
+    let len = c.in-Ok-Some.line.0 in let skip = c.in-Ok-Some.line.1 in
+    let is = rw c.in-Ok-Some.field-0-is at e.line in
+    let t : Reading = record s2 { ahead = c.skip.new.self; line = s2.line + 1 } in
+    let pushed : c.push.new.self ≡ c.lines.got ++ take len s2.ahead ∷ [] = c.in-Ok.ensures.ok ∙ ap (λ (l : List ℕ). c.lines.got ++ l ∷ []) c.front.ensures in (
+      bytes ++ take skip s2.ahead,
+      uses_then s0 s2 t l0 l2 l2 bytes (take skip s2.ahead) (uses_more s0 s1 s2 l0 l1 l2 bytes inv.used e.used) (uses_line s2 t l2 len skip is c.skip.ensures refl refl),
+      large s0.line c.args.n (c.args.n - c.lines.counter) s1 s2 c.lines.got bytes l1 l2 inv.reads e.used e.place (omega (arith, c.lines-test.true)) t len skip is c.skip.ensures refl refl refl c.push.new.self pushed
+          (fits_not c.push.new.self c.text_len.result c.text_len.ensures c.if-text_len-gt-MOST_TEXT.true),
+    )
+
+pub lines-preserved : goal.lines-preserved
+lines-preserved g c =
+    let bytes = c.lines.invariant.0 in let inv = c.lines.invariant.1 in
+    let s0 = c.args.self.now.reading in let s1 = c.lines.self.reading in let s2 = c.next_line.new.self.reading in
+    let l0 = g.S.Source.left c.args.self.now.source.now in let l1 = g.S.Source.left c.lines.self.source.now in let l2 = g.S.Source.left c.next_line.new.self.source.now in
+    let e = c.in-Ok-Some.ensures in
+    let len = c.in-Ok-Some.line.0 in let skip = c.in-Ok-Some.line.1 in
+    let is = rw c.in-Ok-Some.field-0-is at e.line in
+    let t : Reading = record s2 { ahead = c.skip.new.self; line = s2.line + 1 } in
+    let pushed : c.push.new.self ≡ c.lines.got ++ take len s2.ahead ∷ [] = c.in-Ok.ensures.ok ∙ ap (λ (l : List ℕ). c.lines.got ++ l ∷ []) c.front.ensures in (
+      bytes ++ take skip s2.ahead,
+      record {
+        same = e.same ∙ inv.same;
+        used = uses_then s0 s2 t l0 l2 l2 bytes (take skip s2.ahead) (uses_more s0 s1 s2 l0 l1 l2 bytes inv.used e.used) (uses_line s2 t l2 len skip is c.skip.ensures refl refl);
+        reads = reads_line s0.line c.args.n (c.args.n - c.lines.counter) s1 s2 c.lines.got bytes l1 l2 inv.reads e.used e.place (omega (arith, c.lines-test.true)) t len skip is c.skip.ensures refl refl refl c.push.new.self pushed
+            (c.args.n - (c.lines.counter + 1)) (omega arith) (fits_all c.push.new.self c.text_len.result c.text_len.ensures c.if-text_len-gt-MOST_TEXT.false);
+        sound = sound_line s2 t l2 len skip is c.skip.ensures refl refl e.sound refl;
+        on = omega (arith, inv.on, e.place.line);
+        many = ap (λ (r : List (List ℕ)). length r) pushed ∙ length_push c.lines.got (take len s2.ahead) ∙ ap (λ (m : ℕ). m + 1) inv.many;
+        last = e.place.last ∙ inv.last;
+        fault = e.place.fault ∙ inv.fault;
+        later = omega (arith, inv.later, e.later);
+      },
+    )

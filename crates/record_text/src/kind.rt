@@ -1,0 +1,10 @@
+// The kinds of windows.
+
+/// How a window forgets: by commands, in a circle of places, never, or as an edited document.
+#[derive(Clone, Copy, Debug, PartialEq, Eq)]
+pub enum Kind {
+    Buckets,
+    Circle,
+    Growing,
+    Document,
+}
