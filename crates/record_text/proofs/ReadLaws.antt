@@ -1,25 +1,21 @@
 -- What a reader has used of its script, line by line.
-use Rattle.std.proofs.Common.{◌≡◌, ◌≢◌, ℕ, zero, suc, ◌+◌, ◌-◌, ◌<◌, ◌≤◌, ◌^◌, Bool, true, false, List, [], ◌∷◌, ◌++◌, length, take, drop, refl, sym, ap, ◌∙◌, subst, arith, inl, inr, ◌⊎◌, length-take, length-drop, append-nil, append_assoc, take-append-drop, take-add}
-use Rattle.std.specs.Prelude.{Option, Ok, Err, Result, nat_le}
-use Rattle.std.specs.declared.option.Option.TheVariants.{Some, None}
+use Rattle.std.proofs.Common.{◌≡◌, ◌≢◌, ℕ, ◌+◌, ◌-◌, ◌<◌, ◌≤◌, Bool, true, false, List, [], ◌∷◌, ◌++◌, length, take, drop, refl, sym, ap, ◌∙◌, subst, arith, inl, inr, length-take, length-drop, append-nil, append_assoc, take-append-drop}
+use Rattle.std.specs.Prelude.{Option, Ok, Err}
+use Rattle.std.specs.declared.option.Option.TheVariants.{Some}
 use Rattle.std.proofs.lemmas.Bool.Decides.{nat_tests}
-use Rattle.std.proofs.Math.Seq.{take-nil}
-use Rattle.definitions.specs.Outside.{Told}
 use Rattle.definitions.specs.Records.{text_of}
-use Rattle.definitions.proofs.ToldBytes.{told_same, told_then, told_with}
-use Rattle.record_text.specs.Lines.{EndsLine, HasNoLine}
+use Rattle.definitions.proofs.ToldBytes.{told_same, told_then}
 use Rattle.record_text.specs.Table.{asked, command_of, IsForm}
-use Rattle.record_text.specs.Script.{Awaits, ACommand, ARecord, Script, Faulty, Done, from_line, step, finish, after_records, with_command, fits_command}
-use Rattle.record_text.specs.Reading.{IsLine, Goes, Comes, Sound, Used, Uses, Stops, RecordsAre, CommandIs, NextLineIs, NextTold, NextTaken, SamePlace, to_come, script_after}
-use Rattle.record_text.specs.declared.command.Command.{Command}
+use Rattle.record_text.specs.Script.{ACommand, ARecord, Script, from_line, step, after_records, fits_command}
+use Rattle.record_text.specs.Reading.{IsLine, Goes, Comes, Sound, Used, Uses, Stops, RecordsAre, CommandIs, NextLineIs, SamePlace}
 use Rattle.record_text.specs.declared.reading.Reading.{Reading}
 use Rattle.record_text.specs.declared.script_fault.ScriptFault.{ScriptFault}
 use Rattle.record_text.specs.declared.script_fault.Why.{Why}
-use Rattle.record_text.specs.declared.script_fault.Why.TheVariants.{ShortInput, WindowLarge, Read, Mem}
+use Rattle.record_text.specs.declared.script_fault.Why.TheVariants.{ShortInput, WindowLarge, Read}
 use Rattle.record_text.specs.declared.table.Head.{Head}
 use Rattle.record_text.specs.declared.table.Asked.TheVariants.{Asks, Refuses}
 use Rattle.record_text.proofs.LineLaws.{EndsLine-append}
-use Rattle.record_text.proofs.ScriptLaws.{one_read, all_read, step-record, step-large, step-asks, step-refuses, from_line-none, length_append, drop_exact}
+use Rattle.record_text.proofs.ScriptLaws.{one_read, all_read, step-record, step-large, step-asks, step-refuses, from_line-none, length_append}
 
 abbrev IsTrueTest : Bool → Type 0
 IsTrueTest true = Unit {0}
@@ -86,6 +82,9 @@ module _ (r s : Reading) (left : Option (List ℕ)) (len skip : ℕ) (line : IsL
     more = λ e. let m = sound.more (sym ended ∙ e) in omega (arith, m, room);
     size = let n = ap (λ (h : List ℕ). length h) ahead in omega (arith, n, room, next, sound.size, length-drop skip r.ahead, line.within, line.some);
   }
+
+  pub count_line : s.line ≡ r.line + 1 → s.line + (s.room + length s.ahead) ≤ r.line + (r.room + length r.ahead)
+  count_line next = let n = ap (λ (h : List ℕ). length h) ahead in omega (arith, n, room, next, length-drop skip r.ahead, line.within, line.some)
 
   pub goes_line : (full : Bool) (x : List ℕ) → Goes s.ended s.ahead full x → Goes r.ended (drop skip r.ahead) full x
   goes_line full x goes e = let g = goes (ended ∙ e) in (g.0, g.1 ∙ ahead)

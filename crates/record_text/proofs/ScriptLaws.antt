@@ -1,15 +1,13 @@
 -- The commands of bytes whose first line is known.
-use Rattle.std.proofs.Common.{◌≡◌, ◌≢◌, ℕ, zero, suc, ◌+◌, ◌-◌, ◌<◌, ◌≤◌, Bool, true, false, List, [], ◌∷◌, ◌++◌, length, take, drop, get_or, refl, sym, ap, ◌∙◌, subst, arith, inl, inr, ◌⊎◌, length-take, length-drop, append-nil, append_assoc, take-append-drop}
+use Rattle.std.proofs.Common.{◌≡◌, ◌≢◌, ℕ, zero, suc, ◌+◌, ◌-◌, ◌<◌, ◌≤◌, Bool, true, false, List, [], ◌∷◌, ◌++◌, length, take, drop, get_or, refl, sym, ap, ◌∙◌, subst, arith, length-take, append-nil, take-append-drop}
 use Rattle.std.specs.Prelude.{All, nat_le}
-use Rattle.std.proofs.lemmas.Bool.{cases_lt}
 use Rattle.std.proofs.lemmas.Bool.Decides.{nat_tests}
 use Rattle.std.proofs.lemmas.Grind.{common_steps}
 use Rattle.std.proofs.lemmas.List.{drop_all, take_all, take-append-le}
-use Rattle.definitions.specs.Records.{IsRecord}
 use Rattle.record_text.specs.Lines.{pieces, with_byte, EndsLine, HasNoLine}
 use Rattle.record_text.specs.Table.{asked, command_of}
-use Rattle.record_text.specs.Script.{Awaits, ACommand, ARecord, Script, Faulty, Done, from_line, commands, walk, step, finish, after_records, with_command, fits_command}
-use Rattle.record_text.specs.Reading.{IsLine, Goes}
+use Rattle.record_text.specs.Script.{Awaits, ACommand, ARecord, Script, Faulty, from_line, commands, walk, step, finish, after_records, with_command, fits_command}
+use Rattle.record_text.specs.Reading.{IsLine}
 use Rattle.record_text.specs.declared.script_fault.Why.{Why}
 use Rattle.record_text.specs.declared.script_fault.Why.TheVariants.{LongLine, LongScript, WindowLarge}
 use Rattle.record_text.specs.declared.table.Head.{Head}

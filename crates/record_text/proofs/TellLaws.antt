@@ -1,13 +1,13 @@
 -- What a reader answers of a told source.
-use Rattle.std.proofs.Common.{◌≡◌, ◌≢◌, ℕ, ◌+◌, ◌-◌, ◌<◌, ◌≤◌, Bool, true, false, List, [], ◌∷◌, ◌++◌, length, take, drop, refl, sym, ap, ◌∙◌, subst, arith, inl, inr, ◌⊎◌, append-nil, append_assoc, take-add}
-use Rattle.std.specs.Prelude.{Option, Ok, Err, Result, nat_le}
+use Rattle.std.proofs.Common.{◌≡◌, ℕ, ◌+◌, ◌<◌, true, false, List, [], ◌∷◌, ◌++◌, length, take, refl, sym, ap, ◌∙◌, arith, inl, inr, ◌⊎◌, append-nil, take-add}
+use Rattle.std.specs.Prelude.{Option, Ok, Err, nat_le}
 use Rattle.std.specs.declared.option.Option.TheVariants.{Some, None}
 use Rattle.std.proofs.lemmas.Bool.Decides.{nat_tests}
 use Rattle.std.proofs.Math.Seq.{take-nil}
 use Rattle.definitions.specs.Outside.{Told}
 use Rattle.definitions.proofs.ToldBytes.{told_with}
-use Rattle.record_text.specs.Script.{ACommand, Script, Faulty, Done, from_line, with_command}
-use Rattle.record_text.specs.Reading.{Comes, Sound, Uses, Stops, CommandIs, NextTold, to_come, script_after}
+use Rattle.record_text.specs.Script.{ACommand, Faulty, from_line, with_command}
+use Rattle.record_text.specs.Reading.{Comes, Sound, Uses, CommandIs, NextTold, to_come, script_after}
 use Rattle.record_text.specs.declared.command.Command.{Command}
 use Rattle.record_text.specs.declared.reading.Reading.{Reading}
 use Rattle.record_text.specs.declared.script_fault.ScriptFault.{ScriptFault}

@@ -1,5 +1,5 @@
 -- Bytes that were taken from a source and not used yet.
-use Rattle.std.specs.Prelude.{◌≡◌, ◌≢◌, ℕ, ◌<◌, ◌≤◌, List, length, drop, slice_index}
+use Rattle.std.specs.Prelude.{◌≢◌, ℕ, ◌<◌, ◌≤◌, List, length, drop, slice_index}
 
 -- the first `seen` of these bytes are no LF
 abbrev pub NoneBefore : ℕ → List ℕ → Type 0

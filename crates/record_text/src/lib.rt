@@ -17,6 +17,8 @@ mod script_fault;
 mod script_reader;
 mod shift;
 mod table;
+#[cfg(test)]
+mod tests;
 
 pub use bundle::Bundle;
 pub use command::Command;

@@ -168,6 +168,7 @@ impl<'a, S: Source> ScriptReader<'a, S> {
         ensures failed { IfErr result (λ fault. fault.why ≡ Read → Rose (S.faults self.old.source.now) (S.faults self.new.source.now)) }
         ensures at { IfErr result (λ fault. (fault.why ≡ Read) ⊎ (fault.why ≡ Mem) → fault.line ≡ self.new.reading.line + 1) }
         ensures on { self.old.reading.line ≤ self.new.reading.line }
+        ensures count { self.new.reading.line + (self.new.reading.room + length self.new.reading.ahead) ≤ self.old.reading.line + (self.old.reading.room + length self.old.reading.ahead) }
     {
         let at = self.reading.line;
         let mut got = Records::new(alloc);
@@ -212,6 +213,7 @@ impl<'a, S: Source> ScriptReader<'a, S> {
         ensures failed { IfErr result (λ fault. fault.why ≡ Read → Rose (S.faults self.old.source.now) (S.faults self.new.source.now)) }
         ensures at { IfErr result (λ fault. (fault.why ≡ Read) ⊎ (fault.why ≡ Mem) → fault.line ≡ self.new.reading.line + 1) }
         ensures moved { IfOk result (λ c. IsSome c → self.old.reading.line < self.new.reading.line) }
+        ensures count { self.new.reading.line + (self.new.reading.room + length self.new.reading.ahead) ≤ self.old.reading.line + (self.old.reading.room + length self.old.reading.ahead) }
         ensures behind { IfOk result (λ c. IsSome c → self.new.reading.last ≤ self.new.reading.line) }
     {
         let (len, skip) = match self.next_line() {
@@ -243,7 +245,7 @@ impl<'a, S: Source> ScriptReader<'a, S> {
         ensures told { Told (S.left (source_of self.old).now) (S.left (source_of self.new).now) (λ l m. NextTold (to_come (reading_of self.old) l) (to_come (reading_of self.new) m) (reading_of self.new).last result) }
         ensures taken { (reading_of self.old).fault ≡ None → (used : List ℕ) × Uses (reading_of self.old) (reading_of self.new) (S.left (source_of self.old).now) (S.left (source_of self.new).now) used
             × NextTaken (reading_of self.old) (reading_of self.new) used result }
-        ensures sticky { (fault : ScriptFault) → (reading_of self.old).fault ≡ Some fault → (result ≡ Err fault) × ((reading_of self.new).fault ≡ Some fault) }
+        ensures sticky { (fault : ScriptFault) → (reading_of self.old).fault ≡ Some fault → (result ≡ Err fault) × (reading_of self.new ≡ reading_of self.old) × ((source_of self.new).now ≡ (source_of self.old).now) }
         ensures fault { IfErr result (λ fault. (reading_of self.new).fault ≡ Some fault) }
         ensures clear { IfOk result (λ _. (reading_of self.new).fault ≡ None) }
         ensures last { LastIs (reading_of self.old).last (reading_of self.new).last result }
@@ -253,6 +255,7 @@ impl<'a, S: Source> ScriptReader<'a, S> {
         ensures failed { IfErr result (λ fault. (reading_of self.old).fault ≡ None → fault.why ≡ Read → Rose (S.faults (source_of self.old).now) (S.faults (source_of self.new).now)) }
         ensures at { IfErr result (λ fault. (reading_of self.old).fault ≡ None → (fault.why ≡ Read) ⊎ (fault.why ≡ Mem) → fault.line ≡ (reading_of self.new).line + 1) }
         ensures moved { IfOk result (λ c. IsSome c → (reading_of self.old).line < (reading_of self.new).line) }
+        ensures count { (reading_of self.new).line + ((reading_of self.new).room + length (reading_of self.new).ahead) ≤ (reading_of self.old).line + ((reading_of self.old).room + length (reading_of self.old).ahead) }
         ensures behind { IfOk result (λ c. IsSome c → (reading_of self.new).last ≤ (reading_of self.new).line) }
     {
         if let Some(fault) = self.reading.fault {

@@ -1,4 +1,4 @@
-use Rattle.std.proofs.Common.{◌≡◌, ◌+◌, ◌-◌, ◌<◌, ◌≤◌, ℕ, List, ◌∷◌, [], length, take, drop, get_or, sym, ap, ◌∙◌, subst, arith, suc, length-drop}
+use Rattle.std.proofs.Common.{◌≡◌, ◌+◌, ◌-◌, ℕ, List, length, take, drop, get_or, sym, ap, ◌∙◌, arith, length-drop}
 use Rattle.record_text.proofs.AheadLaws.{same_true, true_same, rest_is, none_beyond, get_drop}
 use Rattle.record_text.proofs.ahead.line_end_from.Goals as goal
 

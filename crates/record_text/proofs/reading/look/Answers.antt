@@ -1,4 +1,4 @@
-use Rattle.std.proofs.Common.{arith, ◌+◌, ◌≤◌, ◌<◌, refl, sym, ap, subst, true, Bool, ◌≡◌, ℕ, List, length, get_or, ◌∙◌}
+use Rattle.std.proofs.Common.{arith, sym, ap, subst, Bool, ℕ, List, length}
 use Rattle.record_text.specs.Reading.{IsLine}
 use Rattle.record_text.proofs.ScriptLaws.{no_line, long, cut_short, whole, last}
 use Rattle.record_text.proofs.reading.look.Goals as goal

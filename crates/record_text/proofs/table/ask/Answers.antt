@@ -1,6 +1,6 @@
-use Rattle.std.proofs.Common.{◌≡◌, List, ℕ, Bor, ◌∷◌, sym, ap, ◌∙◌, true, false}
+use Rattle.std.proofs.Common.{◌≡◌, List, ℕ, sym, ap, ◌∙◌, true, false}
 use Rattle.std.specs.Prelude.{bytes_eq, codes}
-use Rattle.record_text.specs.Table.{fields_of, fields_behind}
+use Rattle.record_text.specs.Table.{fields_behind}
 use Rattle.record_text.proofs.FieldLaws.{asked-bucket, asked-run, asked-other}
 use Rattle.record_text.proofs.table.ask.Goals as goal
 

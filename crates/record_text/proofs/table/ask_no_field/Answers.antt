@@ -1,4 +1,4 @@
-use Rattle.std.proofs.Common.{◌≡◌, List, ℕ, Bor, sym, ap, ◌∙◌}
+use Rattle.std.proofs.Common.{List, ℕ, Bor, sym, ap, ◌∙◌}
 use Rattle.std.specs.Prelude.{Option}
 use Rattle.record_text.specs.declared.table.Asked.TheVariants.{Asks}
 use Rattle.record_text.specs.Table.{fields_behind, no_field}

@@ -1,4 +1,4 @@
-use Rattle.std.proofs.Common.{◌≡◌, ◌+◌, ◌-◌, ◌<◌, ◌≤◌, ℕ, List, ◌∷◌, [], length, take, drop, get_or, sym, ap, ◌∙◌, arith, suc}
+use Rattle.std.proofs.Common.{◌≡◌, ◌+◌, ℕ, List, ◌∷◌, take, drop, get_or, sym, ap, ◌∙◌, arith, suc}
 use Rattle.record_text.specs.Table.{fields_of}
 use Rattle.record_text.proofs.AheadLaws.{same_true, true_same, rest_is}
 use Rattle.record_text.proofs.FieldLaws.{fields_of-space, fields_of-none}

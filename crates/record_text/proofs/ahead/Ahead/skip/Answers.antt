@@ -1,4 +1,4 @@
-use Rattle.std.proofs.Common.{◌≡◌, ◌≤◌, ◌+◌, ◌-◌, ℕ, List, length, sym, subst}
+use Rattle.std.proofs.Common.{◌≤◌, ◌+◌, ℕ, List, length, sym, subst}
 use Rattle.record_text.specs.Ahead.{IsHeld}
 use Rattle.record_text.proofs.AheadLaws.{skipped}
 use Rattle.record_text.proofs.ahead.Ahead.skip.Goals as goal

@@ -1,6 +1,5 @@
 use Rattle.std.proofs.Common.{◌≡◌, ◌<◌, ℕ, List, [], length, get_or, sym, ap, ◌∙◌, subst, arith, drop, take, ◌-◌}
 use Rattle.definitions.specs.Records.{IsRecord}
-use Rattle.record_text.specs.declared.records.Span.{Span}
 use Rattle.record_text.specs.Spans.{cuts, cut}
 use Rattle.record_text.proofs.SpanLaws.{get_cut, length_cuts}
 use Rattle.record_text.proofs.records.Records.get.Goals as goal

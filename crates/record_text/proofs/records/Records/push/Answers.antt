@@ -1,6 +1,6 @@
-use Rattle.std.proofs.Common.{◌≡◌, ◌+◌, ◌<◌, ◌++◌, ◌∷◌, [], ℕ, List, length, sym, ap, ◌∙◌, subst, arith, refl}
+use Rattle.std.proofs.Common.{◌≡◌, ◌+◌, ◌<◌, ◌++◌, ◌∷◌, [], ℕ, List, length, sym, ap, ◌∙◌, subst, arith}
 use Rattle.record_text.specs.declared.records.Span.{Span}
-use Rattle.record_text.specs.Spans.{IsText, cuts, cut}
+use Rattle.record_text.specs.Spans.{IsText, cuts}
 use Rattle.record_text.proofs.SpanLaws.{cuts-push, is_text-push, length_cuts}
 use Rattle.record_text.proofs.records.Records.push.Goals as goal
 

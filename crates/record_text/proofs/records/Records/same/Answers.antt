@@ -1,5 +1,5 @@
-use Rattle.std.proofs.Common.{◌≡◌, List, ℕ, sym, ap, ◌∙◌, subst}
-use Rattle.definitions.specs.Records.{text_of, AllRecords}
+use Rattle.std.proofs.Common.{sym, ap, ◌∙◌}
+use Rattle.definitions.specs.Records.{text_of}
 use Rattle.record_text.specs.Spans.{cuts}
 use Rattle.record_text.proofs.LineLaws.{text_of-injective}
 use Rattle.std.proofs.lemmas.Slice.Eq.{bytes_eq-Decides}

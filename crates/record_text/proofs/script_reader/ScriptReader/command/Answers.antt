@@ -1,11 +1,11 @@
-use Rattle.std.proofs.Common.{◌≡◌, ◌≤◌, ◌<◌, ◌+◌, ◌-◌, [], ◌∷◌, ◌++◌, length, drop, take, List, ℕ, arith, refl, sym, ap, ◌∙◌, subst}
-use Rattle.std.specs.Prelude.{Ok, Err}
-use Rattle.std.specs.declared.option.Option.TheVariants.{Some, None}
+use Rattle.std.proofs.Common.{◌+◌, [], ◌++◌, take, arith, refl, sym, ap, ◌∙◌, subst}
+use Rattle.std.specs.Prelude.{Ok}
+use Rattle.std.specs.declared.option.Option.TheVariants.{Some}
 use Rattle.record_text.specs.Reading.{CommandIs}
 use Rattle.record_text.specs.Table.{asked, RefusesForm}
 use Rattle.record_text.specs.declared.command.Command.{Command}
 use Rattle.record_text.specs.declared.reading.Reading.{Reading}
-use Rattle.record_text.proofs.ReadLaws.{uses_then, uses_line, command_stops, refuses, command_is, records_stop}
+use Rattle.record_text.proofs.ReadLaws.{uses_then, uses_line, count_line, command_stops, refuses, command_is, records_stop}
 use Rattle.record_text.proofs.script_reader.ScriptReader.command.Goals as goal
 
 pub returns-in-Err-clause-reads : goal.returns-in-Err-clause-reads
@@ -61,3 +61,30 @@ returns-in-Err-read_records-clause-reads g c =
       uses_then r t u lr ls lu (take skip s.ahead) used first reads.1,
       records_stop r s t lr ls e.used e.place len skip is c.skip.ensures refl refl refl c.in-Asks.head c.in-Asks.n asks u lu used reads.1 u.last c.in-Err-read_records.fault reads.2,
     )
+
+pub returns-in-Refuses-clause-count : goal.returns-in-Refuses-clause-count
+returns-in-Refuses-clause-count g c =
+    let s = c.next_line.new.self.reading in
+    let e = c.in-Ok-Some.ensures in
+    let len = c.in-Ok-Some.line.0 in let skip = c.in-Ok-Some.line.1 in
+    let is = rw c.in-Ok-Some.field-0-is at e.line in
+    let t : Reading = record s { ahead = c.skip.new.self; line = s.line + 1 } in
+    omega (arith, e.used.count, e.place.line, count_line s t (g.S.Source.left c.next_line.new.self.source.now) len skip is c.skip.ensures refl refl refl)
+
+pub returns-in-Ok-clause-count : goal.returns-in-Ok-clause-count
+returns-in-Ok-clause-count g c =
+    let s = c.next_line.new.self.reading in
+    let e = c.in-Ok-Some.ensures in
+    let len = c.in-Ok-Some.line.0 in let skip = c.in-Ok-Some.line.1 in
+    let is = rw c.in-Ok-Some.field-0-is at e.line in
+    let t : Reading = record s { ahead = c.skip.new.self; line = s.line + 1 } in
+    omega (arith, e.used.count, e.place.line, count_line s t (g.S.Source.left c.next_line.new.self.source.now) len skip is c.skip.ensures refl refl refl, c.read_records.ensures.count)
+
+pub returns-in-Err-read_records-clause-count : goal.returns-in-Err-read_records-clause-count
+returns-in-Err-read_records-clause-count g c =
+    let s = c.next_line.new.self.reading in
+    let e = c.in-Ok-Some.ensures in
+    let len = c.in-Ok-Some.line.0 in let skip = c.in-Ok-Some.line.1 in
+    let is = rw c.in-Ok-Some.field-0-is at e.line in
+    let t : Reading = record s { ahead = c.skip.new.self; line = s.line + 1 } in
+    omega (arith, e.used.count, e.place.line, count_line s t (g.S.Source.left c.next_line.new.self.source.now) len skip is c.skip.ensures refl refl refl, c.read_records.ensures.count)

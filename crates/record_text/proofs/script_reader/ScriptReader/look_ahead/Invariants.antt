@@ -1,4 +1,4 @@
-use Rattle.std.proofs.Common.{◌≡◌, ◌≤◌, ◌+◌, ◌-◌, [], length, true, false, Bool}
+use Rattle.std.proofs.Common.{◌≡◌, ◌≤◌, ◌+◌, []}
 use Rattle.std.specs.Prelude.{if◌then◌else◌}
 use Rattle.record_text.specs.Reading.{Uses, Sound, SamePlace}
 use Rattle.record_text.proofs.script_reader.ScriptReader.look_ahead.Given as goal

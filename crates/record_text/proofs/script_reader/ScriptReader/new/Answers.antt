@@ -1,4 +1,4 @@
-use Rattle.std.proofs.Common.{◌≡◌, ℕ, List, ◌++◌, take, sym, ap, ◌∙◌, length}
+use Rattle.std.proofs.Common.{ℕ, List, ◌++◌, take, sym, ap, ◌∙◌, length}
 use Rattle.std.specs.Prelude.{nat_le}
 use Rattle.record_text.specs.Script.{from_line, ACommand}
 use Rattle.record_text.proofs.ScriptLaws.{commands-is}

@@ -1,4 +1,4 @@
-use Rattle.std.proofs.Common.{◌≡◌, sym, ap, ◌∙◌}
+use Rattle.std.proofs.Common.{◌∙◌}
 use Rattle.record_text.proofs.TellLaws.{told_ok, told_fault, is_none}
 use Rattle.record_text.proofs.script_reader.ScriptReader.next.Goals as goal
 

@@ -1,7 +1,7 @@
-use Rattle.std.proofs.Common.{◌≡◌, ◌≤◌, ◌<◌, ◌+◌, ◌-◌, [], ◌∷◌, ◌++◌, length, drop, take, List, ℕ, arith, refl, sym, ap, ◌∙◌}
+use Rattle.std.proofs.Common.{◌≡◌, ◌+◌, ◌-◌, [], ◌∷◌, ◌++◌, length, take, List, ℕ, arith, refl, ap, ◌∙◌}
 use Rattle.record_text.specs.declared.reading.Reading.{Reading}
 use Rattle.record_text.proofs.SpanLaws.{length_push}
-use Rattle.record_text.proofs.ReadLaws.{uses_more, uses_then, uses_line, sound_line, short, stops, reads_line, large, fits_not, fits_all}
+use Rattle.record_text.proofs.ReadLaws.{uses_more, uses_then, uses_line, count_line, sound_line, short, stops, reads_line, large, fits_not, fits_all}
 use Rattle.record_text.proofs.script_reader.ScriptReader.read_records.Goals as goal
 
 pub returns-in-Ok-None-clause-reads : goal.returns-in-Ok-None-clause-reads
@@ -59,6 +59,7 @@ lines-preserved g c =
         reads = reads_line s0.line c.args.n (c.args.n - c.lines.counter) s1 s2 c.lines.got bytes l1 l2 inv.reads e.used e.place (omega (arith, c.lines-test.true)) t len skip is c.skip.ensures refl refl refl c.push.new.self pushed
             (c.args.n - (c.lines.counter + 1)) (omega arith) (fits_all c.push.new.self c.text_len.result c.text_len.ensures c.if-text_len-gt-MOST_TEXT.false);
         sound = sound_line s2 t l2 len skip is c.skip.ensures refl refl e.sound refl;
+        count = omega (arith, inv.count, e.used.count, e.place.line, count_line s2 t l2 len skip is c.skip.ensures refl refl refl);
         on = omega (arith, inv.on, e.place.line);
         many = ap (λ (r : List (List ℕ)). length r) pushed ∙ length_push c.lines.got (take len s2.ahead) ∙ ap (λ (m : ℕ). m + 1) inv.many;
         last = e.place.last ∙ inv.last;

@@ -1,4 +1,4 @@
-use Rattle.std.proofs.Common.{◌≡◌, ◌≤◌, ◌-◌, length, List, ℕ}
+use Rattle.std.proofs.Common.{◌≡◌, ◌≤◌, ◌-◌, ◌+◌, length, List, ℕ}
 use Rattle.record_text.specs.Reading.{Uses, Sound}
 use Rattle.record_text.proofs.ReadLaws.{IsReading}
 use Rattle.record_text.proofs.script_reader.ScriptReader.read_records.Given as goal
@@ -9,6 +9,7 @@ invariant-lines g l = (bytes : List ℕ) × record {
   used : Uses l.initial.self.reading l.self.reading (g.S.Source.left l.initial.self.source.now) (g.S.Source.left l.self.source.now) bytes;
   reads : IsReading l.at l.n l.self.reading (l.n - l.counter) l.got bytes;
   sound : Sound l.self.reading (g.S.Source.left l.self.source.now);
+  count : l.self.reading.line + (l.self.reading.room + length l.self.reading.ahead) ≤ l.initial.self.reading.line + (l.initial.self.reading.room + length l.initial.self.reading.ahead);
   on : l.initial.self.reading.line ≤ l.self.reading.line;
   many : length l.got ≡ l.counter;
   last : l.self.reading.last ≡ l.initial.self.reading.last;

@@ -1,0 +1,5 @@
+pub mod MergeSteps
+pub mod GroupLaws
+pub mod EntryLaws
+pub mod TieLaws
+pub mod MergedLaws

@@ -1,0 +1,15 @@
+//! Sheets: shared tables of partial results, with the number that their job is set to. [`map_sheets`] maps records to a
+//! sheet, [`merge_sheets`] merges two, and no other call makes one but [`Sheet::empty`] and [`Sheet::share`]. Mapping is
+//! n log n in the pairs and a merge linear in the entries; keys are shared and never copied. No table ever changes.
+#![tactic(auto)]
+
+mod grouping;
+mod mapping;
+mod merging;
+mod sheet;
+mod table;
+
+pub use mapping::map_sheets;
+pub use merging::merge_sheets;
+pub use sheet::{Sheet, same_sheet};
+pub use table::Table;

@@ -1,0 +1,119 @@
+// The merge of two sheets.
+ghost use Rattle.std.specs.Prelude.{◌≡◌, ◌≤◌, ◌+◌, IfOk, OnOk};
+ghost use Rattle.definitions.specs.Tables.{IsRising, HasGoodValues, merged, merge_in_order, common_keys};
+ghost use Rattle.job_laws.specs.Counted.{risen, RoseWithin};
+ghost use Rattle.sheets.specs.Sheets.{ties};
+
+use crate::{Sheet, Table};
+use job_laws::{Job, Key, Meter};
+use std::alloc::{AllocError, Global};
+use std::cmp::Ordering;
+
+/// The union of two sheets by key, with the joined value where both have the key, of which `a`'s stands left. Keys are
+/// shared; it is linear in the entries.
+pub fn merge_sheets<J: Job>(
+    alloc: Global,
+    job: &J,
+    a: &Sheet<J>,
+    b: &Sheet<J>,
+    m: &mut J::Meter,
+) -> Result<Sheet<J>, AllocError>
+    requires left { a.now.setting ≡ J.setting job.now }
+    requires right { b.now.setting ≡ J.setting job.now }
+    ensures setting { IfOk result (λ s. s.setting ≡ J.setting job.now) }
+    ensures entries { IfOk result (λ s. s.entries ≡ merged (J.joined (J.setting job.now)) a.now.entries b.now.entries) }
+
+    // Whatever it answers, one merge was counted and at most the common keys were joined.
+    ensures maps { J.Meter.maps m.new ≡ J.Meter.maps m.old }
+    ensures merges { J.Meter.merges m.new ≡ risen (J.Meter.merges m.old) }
+    ensures joins { RoseWithin (common_keys a.now.entries b.now.entries) (J.Meter.joins m.old) (J.Meter.joins m.new) }
+{
+    m.merge();
+    let entries = merge_entries(
+        alloc,
+        job,
+        a.entries().as_slice(),
+        b.entries().as_slice(),
+        m,
+    )?;
+    Sheet::of(alloc, job.setting(), Table::of(entries))
+}
+
+pub(crate) fn copy_entry<J: Job>(
+    alloc: Global,
+    e: &(Key, J::Val),
+) -> Result<(Key, J::Val), AllocError>
+    ensures { IfOk result (λ c. c ≡ e.now) }
+{
+    let key = e.0.share()?;
+    let val = J::copy(alloc, &e.1)?;
+    Ok((key, val))
+}
+
+fn join_entries<J: Job>(
+    alloc: Global,
+    job: &J,
+    e: &(Key, J::Val),
+    f: &(Key, J::Val),
+    m: &mut J::Meter,
+) -> Result<(Key, J::Val), AllocError>
+    requires left { J.good (J.setting job.now) e.now.1 }
+    requires right { J.good (J.setting job.now) f.now.1 }
+    ensures ok { IfOk result (λ c. c ≡ (e.now.0, J.joined (J.setting job.now) e.now.1 f.now.1)) }
+    ensures maps { J.Meter.maps m.new ≡ J.Meter.maps m.old }
+    ensures merges { J.Meter.merges m.new ≡ J.Meter.merges m.old }
+    ensures joins { RoseWithin 1 (J.Meter.joins m.old) (J.Meter.joins m.new) }
+{
+    let val = job.combine(alloc, &e.1, &f.1, m)?;
+    let key = e.0.share()?;
+    Ok((key, val))
+}
+
+/// Two rising lists of entries as one. Keys are shared and values copied; it is linear in the entries.
+pub(crate) fn merge_entries<J: Job>(
+    alloc: Global,
+    job: &J,
+    a: &[(Key, J::Val)],
+    b: &[(Key, J::Val)],
+    m: &mut J::Meter,
+) -> Result<Vec<(Key, J::Val)>, AllocError>
+    requires left { HasGoodValues (J.good (J.setting job.now)) a.now }
+    requires right { HasGoodValues (J.good (J.setting job.now)) b.now }
+    ensures ok { IfOk result (λ out. out.items ≡ merge_in_order (J.joined (J.setting job.now)) a.now b.now) }
+    ensures maps { J.Meter.maps m.new ≡ J.Meter.maps m.old }
+    ensures merges { J.Meter.merges m.new ≡ J.Meter.merges m.old }
+    ensures joins { RoseWithin (ties a.now b.now) (J.Meter.joins m.old) (J.Meter.joins m.new) }
+{
+    let mut out = Vec::new(alloc);
+    out.reserve(a.len().max(b.len()))?;
+    let mut left = a;
+    let mut right = b;
+    'entries: loop {
+        match (left, right) {
+            ([], []) => return Ok(out),
+            ([], [f, others @ ..]) => {
+                out.push(copy_entry::<J>(alloc, f)?)?;
+                right = others;
+            }
+            ([e, more @ ..], []) => {
+                out.push(copy_entry::<J>(alloc, e)?)?;
+                left = more;
+            }
+            ([e, more @ ..], [f, others @ ..]) => match e.0.compare(&f.0) {
+                Ordering::Less => {
+                    out.push(copy_entry::<J>(alloc, e)?)?;
+                    left = more;
+                }
+                Ordering::Equal => {
+                    out.push(join_entries(alloc, job, e, f, m)?)?;
+                    left = more;
+                    right = others;
+                }
+                Ordering::Greater => {
+                    out.push(copy_entry::<J>(alloc, f)?)?;
+                    right = others;
+                }
+            },
+        }
+    }
+}

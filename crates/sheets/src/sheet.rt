@@ -1,0 +1,93 @@
+// Sheets.
+ghost use Rattle.std.specs.Prelude.{◌≡◌, ◌++◌, [], ◌↔◌, ◌^◌, ◌<◌, IsTrue, IfOk, OnOk, OnErr};
+ghost use Rattle.definitions.specs.Answer.{lines_of};
+ghost use Rattle.definitions.specs.Outside.{GainsFront};
+ghost use Rattle.definitions.specs.Tables.{IsRising, HasGoodValues};
+
+use crate::Table;
+use job_laws::Job;
+use std::alloc::{AllocError, Global};
+use std::marker::Model;
+use std::sync::Arc;
+
+/// A shared table with the number that its job is set to. Its values are good at this setting, and it never changes.
+#[derive(Drop)]
+pub struct Sheet<J: Job> {
+    table: Arc<Table<J>, Global>,
+    setting: u32,
+}
+
+impl<J: Job> Model for Sheet<J> {
+    ghost use Rattle.std.specs.Arc.{arc_value};
+    ghost use Rattle.definitions.specs.Tables.{HasGoodValues};
+    ghost use Rattle.sheets.specs.Sheets.{SheetOf};
+
+    ghost Value = { SheetOf J.Val };
+
+    ghost view = { λ s. record { setting = s.setting; entries = arc_value s.table } };
+
+    ghost invariant = { λ s. HasGoodValues (J.good s.setting) (arc_value s.table) };
+}
+
+impl<J: Job> Sheet<J> {
+    /// A sheet without entries.
+    pub fn empty(alloc: Global, setting: u32) -> Result<Sheet<J>, AllocError>
+        ensures setting { IfOk result (λ s. s.setting ≡ setting) }
+        ensures entries { IfOk result (λ s. s.entries ≡ []) }
+    {
+        let table = Arc::new(alloc, Table::of(Vec::new(alloc)))?;
+        Ok(Sheet { table, setting })
+    }
+
+    /// The sheet of this table.
+    pub(crate) fn of(alloc: Global, setting: u32, table: Table<J>) -> Result<Sheet<J>, AllocError>
+        requires { HasGoodValues (J.good setting) table }
+        ensures setting { IfOk result (λ s. s.setting ≡ setting) }
+        ensures entries { IfOk result (λ s. s.entries ≡ table) }
+    {
+        let table = Arc::new(alloc, table)?;
+        Ok(Sheet { table, setting })
+    }
+
+    /// The same sheet once more. Nothing is copied; it fails only where the count of its owners is full.
+    pub fn share(&self) -> Result<Sheet<J>, AllocError>
+        ensures { IfOk result (λ s. s ≡ self.now) }
+    {
+        let table = Arc::try_clone(&self.table)?;
+        Ok(Sheet {
+            table,
+            setting: self.setting,
+        })
+    }
+
+    /// The number that the sheet's job is set to.
+    pub fn setting(&self) -> u32
+        ensures { result ≡ self.now.setting }
+    {
+        self.setting
+    }
+
+    /// The table. It takes no memory.
+    pub fn entries(&self) -> &Table<J>
+        ensures value { result.now ≡ self.now.entries }
+        ensures good { HasGoodValues (J.good self.now.setting) self.now.entries }
+    {
+        &self.table
+    }
+
+    /// Appends the lines of the entries in order to `out`; where memory runs out, a front of them.
+    pub fn write_lines(&self, alloc: Global, job: &J, out: &mut Vec<u8>) -> Result<(), AllocError>
+        requires { self.now.setting ≡ J.setting job.now }
+        ensures ok { OnOk result (out.new.items ≡ out.old.items ++ lines_of (J.text (J.setting job.now)) self.now.entries) }
+        ensures err { OnErr result (GainsFront (lines_of (J.text (J.setting job.now)) self.now.entries) out.old.items out.new.items) }
+    {
+        self.entries().write_lines(alloc, job, out)
+    }
+}
+
+/// Whether two sheets have equal settings and equal tables. It compares whole tables and takes no memory.
+pub fn same_sheet<J: Job>(a: &Sheet<J>, b: &Sheet<J>) -> bool
+    ensures { IsTrue result ↔ (a.now ≡ b.now) }
+{
+    a.setting() == b.setting() && a.entries().same(b.entries())
+}

@@ -1,0 +1,4 @@
+pub mod Window
+pub mod Output
+pub mod Serving
+pub mod Calls

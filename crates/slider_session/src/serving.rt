@@ -1,0 +1,71 @@
+// Serves a whole script.
+ghost use Rattle.std.specs.Prelude.{◌≡◌, ◌<◌, ◌≤◌, ◌+◌, ◌-◌, ◌^◌, ◌++◌, [], ℕ, List, length, IsErrOf, None};
+ghost use Rattle.definitions.specs.Outside.{Rose};
+ghost use Rattle.slider_session.specs.Output.{meaning};
+ghost use Rattle.slider_session.specs.Serving.{Serves, IsOfScript, FitsMeters, HaltIs};
+
+use crate::{Halt, Session};
+use job_laws::{Job, MeterRow};
+use record_text::{ScriptFault, ScriptReader, Why};
+use slider_io::{Sink, Source};
+use std::alloc::Global;
+
+/// How many bytes a script may have at the most, and one more.
+pub const MOST_SCRIPT: u64 = 4_294_967_296;
+
+/// The halt that a reader's fault is.
+fn halt_of(fault: ScriptFault) -> Halt
+    ensures { HaltIs fault result }
+{
+    match fault.why {
+        Why::Mem => Halt::Mem,
+        Why::Read => Halt::Read,
+        _ => Halt::Script(fault),
+    }
+}
+
+/// Serves the script that a source has left: each command is carried out before the next one is read, so each run is
+/// answered before the reader takes more than its line. It stops at the script's first fault, at a failure of the source
+/// or of the sink, or for want of memory.
+pub fn serve<J: Job, S: Source, K: Sink>(
+    alloc: Global,
+    job: J,
+    source: &mut S,
+    out: &mut K,
+    meters: &mut MeterRow<J::Meter>,
+) -> Result<(), Halt>
+    requires meters { FitsMeters meters.old.lanes.items meters.old.parts.items }
+    ensures serves { Serves (meaning (J.accepts (J.setting job)) (J.emits (J.setting job)) (J.joined (J.setting job)) (J.text (J.setting job))) MOST_SCRIPT (S.left source.old) (S.left source.new) (K.held out.old) (K.held out.new) result }
+    ensures script { IsOfScript result }
+    ensures source_later { S.faults source.old ≤ S.faults source.new }
+    ensures later { K.faults out.old ≤ K.faults out.new }
+    ensures read { IsErrOf result Halt.Read → Rose (S.faults source.old) (S.faults source.new) }
+    ensures write { IsErrOf result Halt.Write → Rose (K.faults out.old) (K.faults out.new) }
+    ensures meters { FitsMeters meters.new.lanes.items meters.new.parts.items }
+{
+    let mut session = match Session::new(alloc, job) {
+        Ok(session) => session,
+        Err(_) => return Err(Halt::Mem),
+    };
+    let mut reader = ScriptReader::new(source, alloc, MOST_SCRIPT);
+    'commands: loop {
+        let command = match reader.next(alloc) {
+            Ok(Some(command)) => command,
+            Ok(None) => {
+                reader.into_source();
+                return Ok(());
+            }
+            Err(fault) => {
+                reader.into_source();
+                return Err(halt_of(fault));
+            }
+        };
+        match session.step(alloc, command, reader.line(), out, meters) {
+            Ok(()) => (),
+            Err(halt) => {
+                reader.into_source();
+                return Err(halt);
+            }
+        }
+    }
+}
