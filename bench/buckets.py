@@ -80,7 +80,7 @@ def main():
     program, peer = [PROGRAM] + WORDS, ["sh", "-c", PEER]
     start, peer_start = least_times(given.times, program, peer, b"", b"")
     print(f"seed {given.seed}, least of {given.times}; start {start * 1e3:.2f} ms, of the peer {peer_start * 1e3:.2f} ms")
-    print(f"{'records':>8} {'ms':>9} {'us/record':>10} {'n log n':>8} {'peer':>6}")
+    print(f"{'records':>8} {'ms':>9} {'us_each':>10} {'n log n':>8} {'peer':>6}")
     first = None
     for size in SIZES:
         text = "".join(f"{r}\n" for r in records(Draws(given.seed), size)).encode()
