@@ -3,9 +3,9 @@
 
     bench/buckets.py [--seed SEED] [--times TIMES]
 
-Each size is tried TIMES times, the least time counts, and the time of an empty script, which is that of starting the
-program, is taken off. The two programs take turns, so that a busy machine slows both. bench/README.md says what the
-columns are, and what they do not show.
+Each size is tried TIMES times, the small ones more often, the least time counts, and the time of an empty script, which
+is that of starting the program, is taken off. The two programs take turns, so that a busy machine slows both.
+bench/README.md says what the columns are, and what they do not show.
 """
 
 import argparse
@@ -18,7 +18,7 @@ import time
 TOP = os.path.dirname(os.path.dirname(os.path.abspath(__file__)))
 PROGRAM = os.path.join(TOP, "crates", "slider_program", "out", "slider_program")
 WORDS = ["--job", "count", "--tree", "coalescing"]
-SIZES = [200, 2_000, 20_000]
+SIZES = [(200, 10), (2_000, 3), (20_000, 1)]
 PEER = "tr -cs A-Za-z0-9 '\\n' | sort | uniq -c"
 
 
@@ -78,18 +78,21 @@ def main():
     if not os.access(PROGRAM, os.X_OK):
         sys.exit("buckets.py: the program is not built yet; run ./slider --job count --tree coalescing </dev/null first")
     program, peer = [PROGRAM] + WORDS, ["sh", "-c", PEER]
-    start, peer_start = least_times(given.times, program, peer, b"", b"")
-    print(f"seed {given.seed}, least of {given.times}; start {start * 1e3:.2f} ms, of the peer {peer_start * 1e3:.2f} ms")
-    print(f"{'records':>8} {'ms':>9} {'us_each':>10} {'n log n':>8} {'peer':>6}")
+    start, peer_start = least_times(10 * given.times, program, peer, b"", b"")
+    print(f"seed {given.seed}, least of {given.times} and more; start {start * 1e3:.2f} ms, peer's {peer_start * 1e3:.2f} ms")
+    print(f"{'records':>8} {'ms':>9} {'us_each':>9} {'n log n':>9} {'peer':>9}")
     first = None
-    for size in SIZES:
+    for size, factor in SIZES:
         text = "".join(f"{r}\n" for r in records(Draws(given.seed), size)).encode()
         script = f"bucket {size}\n".encode() + text + b"run\n"
-        own, other = least_times(given.times, program, peer, script, text)
-        own, other = max(own - start, 1e-9), max(other - peer_start, 1e-9)
+        own, other = least_times(factor * given.times, program, peer, script, text)
+        own, other = own - start, other - peer_start
+        if own <= 0 or other <= 0:
+            print(f"{size:>8}  less than the start varies")
+            continue
         per = own / (size * math.log2(size))
         first = first or per
-        print(f"{size:>8} {own * 1e3:>9.2f} {own * 1e6 / size:>10.2f} {per / first:>8.2f} {own / other:>6.2f}")
+        print(f"{size:>8} {own * 1e3:>9.2f} {own * 1e6 / size:>9.2f} {per / first:>9.2f} {own / other:>9.2f}")
 
 
 if __name__ == "__main__":
