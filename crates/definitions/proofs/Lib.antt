@@ -1,0 +1,4 @@
+pub mod ToldBytes
+pub mod TableLaws
+pub mod MergeLaws
+pub mod AnswerLaws

@@ -1,0 +1,5 @@
+pub mod Outside
+pub mod Records
+pub mod Numbers
+pub mod Tables
+pub mod Answer

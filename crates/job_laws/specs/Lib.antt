@@ -1,0 +1,5 @@
+pub mod Counted
+pub mod Encoding
+pub mod Gained
+pub mod Forms
+pub mod Laws

@@ -1,0 +1,117 @@
+// Jobs and their laws.
+ghost use Rattle.std.specs.Prelude.{◌≡◌, ℕ, Bool, List, ◌++◌, IsTrue, ◌↔◌, IfOk, OnOk, OnErr};
+ghost use Rattle.definitions.specs.Outside.{GainsFront};
+ghost use Rattle.definitions.specs.Tables.{HasGoodValues, IsGoodJoin};
+ghost use Rattle.job_laws.specs.Counted.{risen};
+ghost use Rattle.job_laws.specs.Gained.{GainsPairs};
+
+use crate::{Emit, Key, Meter};
+use std::alloc::{AllocError, Global};
+
+/// A job. What it means is a function of the number that it is set to; what a value is encoded as is one of the type.
+pub trait Job: Send + Sync + Drop {
+    /// What stands with a key.
+    type Val: Send + Sync + Drop;
+
+    type Meter: Meter;
+
+    // The number that a job is set to.
+    ghost setting: { Self → ℕ };
+
+    // The records that it accepts.
+    ghost accepts: { ℕ → List ℕ → Bool };
+
+    // The pairs of a record, in order.
+    ghost emits: { ℕ → List ℕ → List (List ℕ × Self.Val) };
+
+    // What two values of a key become, of which the left came first.
+    ghost joined: { ℕ → Self.Val → Self.Val → Self.Val };
+
+    // The values that may be joined and written.
+    ghost good: { ℕ → Self.Val → Type 0 };
+
+    // The lines of a key with its value.
+    ghost text: { ℕ → List ℕ → Self.Val → List ℕ };
+
+    // What a value is written as in a digest.
+    ghost encoded: { Self.Val → List ℕ };
+
+    /// The number that the job is set to.
+    fn setting(&self) -> u32
+        ensures { result ≡ setting self.now };
+
+    /// Whether the job accepts the bytes `r`. It takes no memory.
+    fn accepts(&self, r: &[u8]) -> bool
+        ensures { result ≡ accepts (setting self.now) r.now };
+
+    /// Appends the pairs of the accepted record `r` to `out`; where memory runs out, a front of them.
+    fn map(
+        &self,
+        alloc: Global,
+        r: &[u8],
+        out: &mut Emit<Self::Val>,
+        m: &mut Self::Meter,
+    ) -> Result<(), AllocError>
+        requires { IsTrue (accepts (setting self.now) r.now) }
+        ensures ok { OnOk result (out.new ≡ out.old ++ emits (setting self.now) r.now) }
+        ensures err { OnErr result (GainsPairs (emits (setting self.now) r.now) out.old out.new) }
+
+        // Whatever it answers, one record was mapped.
+        ensures maps { Self.Meter.maps m.new ≡ risen (Self.Meter.maps m.old) }
+        ensures merges { Self.Meter.merges m.new ≡ Self.Meter.merges m.old }
+        ensures joins { Self.Meter.joins m.new ≡ Self.Meter.joins m.old };
+
+    /// The value that joins `a` with `b`, of which `a` came first.
+    fn combine(
+        &self,
+        alloc: Global,
+        a: &Self::Val,
+        b: &Self::Val,
+        m: &mut Self::Meter,
+    ) -> Result<Self::Val, AllocError>
+        requires left { good (setting self.now) a.now }
+        requires right { good (setting self.now) b.now }
+        ensures ok { IfOk result (λ v. v ≡ joined (setting self.now) a.now b.now) }
+
+        // Whatever it answers, two values were joined.
+        ensures maps { Self.Meter.maps m.new ≡ Self.Meter.maps m.old }
+        ensures merges { Self.Meter.merges m.new ≡ Self.Meter.merges m.old }
+        ensures joins { Self.Meter.joins m.new ≡ risen (Self.Meter.joins m.old) };
+
+    /// Appends the lines of the key `k` with its value `v` to `out`; where memory runs out, a front of them.
+    fn line(
+        &self,
+        alloc: Global,
+        k: &Key,
+        v: &Self::Val,
+        out: &mut Vec<u8>,
+    ) -> Result<(), AllocError>
+        requires { good (setting self.now) v.now }
+        ensures ok { OnOk result (out.new.items ≡ out.old.items ++ text (setting self.now) k.now v.now) }
+        ensures err { OnErr result (GainsFront (text (setting self.now) k.now v.now) out.old.items out.new.items) };
+
+    /// An equal value.
+    fn copy(alloc: Global, v: &Self::Val) -> Result<Self::Val, AllocError>
+        ensures { IfOk result (λ w. w ≡ v.now) };
+
+    /// Whether two values are equal. It takes no memory.
+    fn same(a: &Self::Val, b: &Self::Val) -> bool
+        ensures { IsTrue result ↔ (a.now ≡ b.now) };
+
+    /// Appends to `out` what `v` is encoded as; where memory runs out, a front of it.
+    fn encode(v: &Self::Val, out: &mut Vec<u8>) -> Result<(), AllocError>
+        ensures ok { OnOk result (out.new.items ≡ out.old.items ++ encoded v.now) }
+        ensures err { OnErr result (GainsFront (encoded v.now) out.old.items out.new.items) };
+
+    // Emitted values are good.
+    ghost emits_good: { (s : ℕ) (r : List ℕ) → IsTrue (accepts s r) → HasGoodValues (good s) (emits s r) };
+
+    // Joining keeps good values, and is associative on them.
+    ghost join_laws: { (s : ℕ) → IsGoodJoin (good s) (joined s) };
+}
+
+/// A job whose values may be joined in either order.
+pub trait Swaps: Job {
+    // Joining is commutative on good values.
+    ghost joined_comm: { (s : ℕ) (a b : Self.Val) → Self.good s a → Self.good s b → Self.joined s a b ≡ Self.joined s b a };
+}

@@ -1,0 +1,88 @@
+// Keys, emitted pairs and counts, as a caller meets them.
+ghost use Rattle.std.specs.Prelude.{length};
+
+use crate::{CountMeter, Counts, Emit, Key, Meter, MeterRow, be32_bytes, be64_bytes};
+use std::cmp::Ordering;
+use std::test::Fail;
+
+fn cross<T: Send + Sync>(_value: &T) {}
+
+#[test]
+fn keys_are_shared_and_ordered(rt: HostRuntime) -> Result<(), Fail> {
+    let short = Key::of(rt.alloc(), b"ab")?;
+    let long = Key::of(rt.alloc(), b"abc")?;
+    let high = Key::of(rt.alloc(), b"\xff")?;
+    let again = short.share()?;
+    assert_eq!(rt; again.bytes(), b"ab".as_slice());
+    assert_eq!(rt; short.compare(&long), Ordering::Less);
+    assert_eq!(rt; high.compare(&long), Ordering::Greater);
+    assert_eq!(rt; again.compare(&short), Ordering::Equal);
+    cross(&again);
+    Ok(())
+}
+
+#[test]
+fn a_key_may_have_65535_bytes(rt: HostRuntime) -> Result<(), Fail> {
+    let bytes = vec![in rt.alloc(); 7u8; 65535]?;
+    let key = Key::of(rt.alloc(), bytes.as_slice())?;
+    assert_eq!(rt; key.bytes().len(), 65535);
+    Ok(())
+}
+
+#[test]
+fn pairs_stand_in_their_order(rt: HostRuntime) -> Result<(), Fail> {
+    let mut first = Emit::new(rt.alloc());
+    first.put(rt.alloc(), b"b", 1u64)?;
+    first.put(rt.alloc(), b"a", 2)?;
+    let mut more = Emit::new(rt.alloc());
+    more.put(rt.alloc(), b"b", 3)?;
+    cross(&more);
+    first.append(more)?;
+    assert_eq!(rt; first.pairs().len(), 3);
+    let pairs = first.into_pairs();
+    assert_eq!(rt; pairs.len(), 3);
+    assert_eq!(rt; pairs[0].0.bytes(), b"b".as_slice());
+    assert_eq!(rt; pairs[1].0.bytes(), b"a".as_slice());
+    assert_eq!(rt; pairs[2].1, 3);
+    Ok(())
+}
+
+#[test]
+fn each_call_raises_its_own_count(rt: HostRuntime) -> Result<(), Fail> {
+    let mut meter = CountMeter::new();
+    assert_eq!(rt;
+        meter.counts(),
+        Counts {
+            maps: 0,
+            merges: 0,
+            joins: 0
+        }
+    );
+    meter.map();
+    meter.merge();
+    meter.merge();
+    meter.join();
+    meter.join();
+    meter.join();
+    assert_eq!(rt;
+        meter.counts(),
+        Counts {
+            maps: 1,
+            merges: 2,
+            joins: 3
+        }
+    );
+    let row = MeterRow {
+        lanes: vec![in rt.alloc(); meter]?,
+        parts: Vec::new(rt.alloc()),
+    };
+    cross(&row);
+    Ok(())
+}
+
+#[test]
+fn numbers_stand_with_their_highest_byte_first(rt: HostRuntime) -> Result<(), Fail> {
+    assert_eq!(rt; be32_bytes(0x0102_0304), [1, 2, 3, 4]);
+    assert_eq!(rt; be64_bytes(0x0102_0304_0506_0708), [1, 2, 3, 4, 5, 6, 7, 8]);
+    Ok(())
+}

@@ -1,0 +1,5 @@
+use Rattle.std.proofs.Common.{◌≡◌}
+use Rattle.slider_io.proofs.writer_sink.WriterSinkSink.put.Given as goal
+
+abbrev pub invariant-tries : goal.invariant-tries
+invariant-tries g l = l.self-inside.faults ≡ l.initial.self-inside.faults

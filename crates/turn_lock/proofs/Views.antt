@@ -1,0 +1,118 @@
+-- Facts about lists and views.
+use Rattle.std.proofs.Common.{◌≡◌, ◌≢◌, ℕ, zero, suc, ◌+◌, ◌<◌, ◌≤◌, Bool, true, false, cond, ◌⊎◌, List, [], ◌∷◌, ◌++◌, length, set, sym, refl, ap, ◌∙◌, inl, inr, ⊎_elim, append_assoc, arith, ne_eqb}
+use Rattle.std.specs.Prelude.{Option, Some, None}
+use Rattle.std.proofs.lemmas.List.Elements.{filter-append}
+use Rattle.std.proofs.lemmas.List.{append-nil}
+use mathlib.Core.Option.{some, some-injective, some-ne-none}
+use lib.ListN.{get_elem?}
+use Rattle.turn_lock.specs.declared.knowledge.View.{View}
+use Rattle.turn_lock.specs.declared.knowledge.Stage.{Stage}
+use Rattle.turn_lock.specs.declared.knowledge.Stage.TheVariants.{Spent, Idle, Marked, Drawn, Serving}
+use Rattle.turn_lock.specs.Under.{is_of, under}
+use Rattle.turn_lock.specs.Rule.{total, Begins, Live, IsServing, HasDrawn, mark_of, marks, parts_of, parts}
+
+module _ {A : Type 0} where
+  pub at_length : (l : List A) (i : ℕ) (a : A) → get_elem? l i ≡ some a → i < length l
+  at_length [] i a e = absurd (some-ne-none a (sym e))
+  at_length (x ∷ xs) zero a e = omega arith
+  at_length (x ∷ xs) (suc i) a e = let h = at_length xs i a e in omega arith
+
+  pub total_set : (f : A → ℕ) (l : List A) (i : ℕ) (a b : A) → get_elem? l i ≡ some a → total f (set l i b) + f a ≡ total f l + f b
+  total_set f [] i a b e = absurd (some-ne-none a (sym e))
+  total_set f (x ∷ xs) zero a b e = let h : f x ≡ f a = ap f (some-injective x a e) in omega arith
+  total_set f (x ∷ xs) (suc i) a b e = let h = total_set f xs i a b e in omega arith
+
+  pub total_le : (f g : A → ℕ) → ((a : A) → f a ≤ g a) → (l : List A) → total f l ≤ total g l
+  total_le f g h [] = omega arith
+  total_le f g h (x ∷ xs) = let p = total_le f g h xs in let q = h x in omega arith
+
+  pub total_snoc : (f : A → ℕ) (l : List A) (a : A) → total f (l ++ a ∷ []) ≡ total f l + f a
+  total_snoc f [] a = omega arith
+  total_snoc f (x ∷ xs) a = let h = total_snoc f xs a in omega arith
+
+  pub at_end : (l : List A) (a b : A) (j : ℕ) → get_elem? (l ++ a ∷ []) j ≡ some b → (get_elem? l j ≡ some b) ⊎ ((j ≡ length l) × (a ≡ b))
+  at_end [] a b zero e = inr (refl, some-injective a b e)
+  at_end [] a b (suc j) e = absurd (some-ne-none b (sym e))
+  at_end (x ∷ xs) a b zero e = inl e
+  at_end (x ∷ xs) a b (suc j) e = ⊎_elim (λ h. inl h) (λ h. inr (let q = h.0 in omega arith, h.1)) (at_end xs a b j e)
+
+  -- in x ∷ ys behind xs
+  pub at_both : (xs ys : List A) (y b : A) (j : ℕ) → get_elem? (xs ++ y ∷ ys) j ≡ some b → (get_elem? xs j ≡ some b) ⊎ ((y ≡ b) ⊎ ((i : ℕ) × (get_elem? ys i ≡ some b)))
+  at_both [] ys y b zero e = inr (inl (some-injective y b e))
+  at_both [] ys y b (suc j) e = inr (inr (j, e))
+  at_both (x ∷ xs) ys y b zero e = inl e
+  at_both (x ∷ xs) ys y b (suc j) e = at_both xs ys y b j e
+
+  pub at_first : (xs ys : List A) (b : A) (j : ℕ) → get_elem? xs j ≡ some b → get_elem? (xs ++ ys) j ≡ some b
+  at_first [] ys b j e = absurd (some-ne-none b (sym e))
+  at_first (x ∷ xs) ys b zero e = e
+  at_first (x ∷ xs) ys b (suc j) e = at_first xs ys b j e
+
+  pub at_second : (xs ys : List A) (b : A) (j : ℕ) → get_elem? ys j ≡ some b → (i : ℕ) × (get_elem? (xs ++ ys) i ≡ some b)
+  at_second [] ys b j e = (j, e)
+  at_second (x ∷ xs) ys b j e = let h = at_second xs ys b j e in (suc h.0, h.1)
+
+  pub one_at : (a b : A) (j : ℕ) → get_elem? (a ∷ []) j ≡ some b → (j ≡ 0) × (a ≡ b)
+  one_at a b zero e = (refl, some-injective a b e)
+  one_at a b (suc j) e = absurd (some-ne-none b (sym e))
+
+  pub left_nil : (xs ys : List A) → xs ++ ys ≡ [] → xs ≡ []
+  left_nil [] ys e = refl
+  left_nil (x ∷ xs) ys e = cc
+
+  pub begins_refl : (l : List A) → Begins l l
+  begins_refl l = ([], sym (append-nil l))
+
+  pub begins_more : (log more seen : List A) → Begins log seen → Begins (log ++ more) seen
+  begins_more log more seen b = (b.0 ++ more, ap (λ l. l ++ more) b.1 ∙ append_assoc seen b.0 more)
+
+module _ {E : Type 0} (whose : E → Option ℕ) where
+  pub under-append : (n : ℕ) (xs ys : List E) → under whose n (xs ++ ys) ≡ under whose n xs ++ under whose n ys
+  under-append n xs ys = filter-append (λ e. is_of n (whose e)) xs ys
+
+  again_at : (n : ℕ) (x : E) (f : List E) (b : Bool) → is_of n (whose x) ≡ b → under whose n f ≡ f → under whose n (cond b (x ∷ f) f) ≡ cond b (x ∷ f) f
+  again_at n x f true e ih = ap (λ (c : Bool). cond c (x ∷ under whose n f) (under whose n f)) e ∙ ap (λ (l : List E). x ∷ l) ih
+  again_at n x f false e ih = ih
+
+  pub under-again : (n : ℕ) (xs : List E) → under whose n (under whose n xs) ≡ under whose n xs
+  under-again n [] = refl
+  under-again n (x ∷ xs) = again_at n x (under whose n xs) (is_of n (whose x)) refl (under-again n xs)
+
+  not_of : (n m : ℕ) (o : Option ℕ) → (o ≡ Some n) ⊎ (o ≡ None) → m ≢ n → is_of m o ≡ false
+  not_of n m o (inl e) ne = ap (is_of m) e ∙ ne_eqb n m (λ h. ne (sym h))
+  not_of n m o (inr e) ne = ap (is_of m) e
+
+  -- an entry that stands under n or nowhere stands under no other number
+  pub under-other : (n m : ℕ) (log : List E) (e : E) → (whose e ≡ Some n) ⊎ (whose e ≡ None) → m ≢ n → under whose m (log ++ e ∷ []) ≡ under whose m log
+  under-other n m log e w ne = under-append m log (e ∷ []) ∙ (ap (λ (l : List E). under whose m log ++ l) (ap (λ (b : Bool). cond b (e ∷ []) []) (not_of n m (whose e) w ne)) ∙ append-nil (under whose m log))
+
+module _ {E : Type 0} where
+  pub only : (s : Stage E) → (s ≡ Spent) ⊎ Live s
+  only Spent = inl refl
+  only Idle = inr tt
+  only Marked = inr tt
+  only (Drawn n) = inr tt
+  only (Serving n note) = inr tt
+
+  pub part_live : (a : Stage E) (n : ℕ) → Live a → parts_of a n ≡ n
+  part_live Spent n x = absurd x
+  part_live Idle n x = refl
+  part_live Marked n x = refl
+  part_live (Drawn k) n x = refl
+  part_live (Serving k note) n x = refl
+
+  pub mark_le : (a : Stage E) (n : ℕ) → 1 ≤ n → mark_of a ≤ parts_of a n
+  mark_le Spent n h = omega arith
+  mark_le Idle n h = omega arith
+  mark_le Marked n h = h
+  mark_le (Drawn k) n h = omega arith
+  mark_le (Serving k note) n h = omega arith
+
+  pub parts_live : (a b : Stage E) (n : ℕ) → Live a → Live b → parts_of a n ≡ parts_of b n
+  parts_live a b n x y = part_live a n x ∙ sym (part_live b n y)
+
+  pub apart_serving : (a : Stage E) (n : ℕ) → IsServing a → HasDrawn a n → ⊥ → ⊥
+  apart_serving a n s d b = b
+
+  pub marks_live : (v : View E) → marks v ≤ parts v
+  marks_live v = mark_le v.stage (v.gives + length v.ended + 1) (omega arith)

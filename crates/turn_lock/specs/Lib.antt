@@ -1,0 +1,4 @@
+pub mod Views
+pub mod Under
+pub mod Rule
+pub mod Passes

@@ -1,0 +1,24 @@
+//! The rule of the lock's table.
+use crate::knowledge::View;
+use crate::state::Turns;
+use atomic_table::TableRule;
+use std::marker::PhantomData;
+
+/// What a lock is made with.
+#[derive(Drop)]
+pub struct Setup {
+    pub start: u64,
+    pub callers: u64,
+}
+
+pub struct InTurn<T> {
+    marker: PhantomData<T>,
+}
+
+impl<T: Turns> TableRule<Option<T>, View<T::Entry>, Setup> for InTurn<T> {
+    ghost use Rattle.turn_lock.specs.Rule.{Kept, newcomer};
+
+    ghost holds = { λ key. Kept T.history T.whose key.start key.callers };
+
+    ghost first = { λ key. newcomer key.callers };
+}

@@ -1,0 +1,4 @@
+pub mod Hands
+pub mod Lists
+pub mod Shares
+pub mod Steps

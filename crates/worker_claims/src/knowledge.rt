@@ -1,0 +1,26 @@
+//! What a hand knows. These types are for the proofs alone: no value of them is ever made.
+use std::alloc::Global;
+use std::collections::LinkedList;
+
+/// What a hand is doing.
+pub enum Doing {
+    /// The hand has gone into another.
+    Spent,
+    /// It may claim a task.
+    Free,
+    /// It has the task of this number.
+    Held(u64),
+    /// Its last claim found this number, and no task left.
+    Ended(u64),
+}
+
+/// What one seat at the board's table knows.
+pub struct View<T> {
+    /// How many hands it stands for.
+    pub parts: u64,
+    /// The tasks as they were handed in.
+    pub tasks: LinkedList<T>,
+    pub doing: Doing,
+    /// What it gave back, worked, with its numbers.
+    pub given: LinkedList<(u64, T)>,
+}

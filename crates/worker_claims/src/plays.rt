@@ -1,0 +1,37 @@
+//! What each step tells. These types are for the proofs alone.
+ghost use Rattle.worker_claims.specs.Rule.{claimed, gave, without_one, the_one, with, spent};
+
+use crate::knowledge::View;
+use atomic_table::{Join, Play, Split};
+
+/// The next number goes to the hand, with the task of that number where there is one.
+pub struct Claim;
+
+impl<T> Play<Option<T>, View<T>> for Claim {
+    ghost then = { claimed };
+}
+
+/// The task goes home, and to what the hand gave.
+pub struct Give;
+
+impl<T> Play<Option<T>, View<T>> for Give {
+    ghost then = { gave };
+}
+
+/// A hand is made.
+pub struct Deal;
+
+impl<T> Split<View<T>> for Deal {
+    ghost left = { without_one };
+
+    ghost right = { the_one };
+}
+
+/// A hand is joined into another.
+pub struct Gather;
+
+impl<T> Join<View<T>> for Gather {
+    ghost both = { with };
+
+    ghost spent = { spent };
+}
