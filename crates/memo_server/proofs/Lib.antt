@@ -1,0 +1,5 @@
+pub mod TurnLists
+pub mod Places
+pub mod Search
+pub mod Entries
+pub mod Steps

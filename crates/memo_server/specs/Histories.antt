@@ -1,0 +1,30 @@
+-- The turns of a shard and their events.
+use Rattle.std.specs.Prelude.{◌≡◌, ℕ, zero, suc, ◌==◌, Bool, List, [], ◌∷◌, ◌++◌, Option, Some, None}
+use Rattle.std.specs.List.{filter}
+use Rattle.memo_core.specs.declared.event.Event.{Event}
+use Rattle.memo_core.specs.declared.event.Event.TheVariants.{Look, Keep, Release, Sweep}
+use Rattle.memo_server.specs.declared.turn.Turn.{Turn}
+use Rattle.memo_server.specs.declared.turn.Turn.TheVariants.{Made, Empty}
+
+-- The events of the turns.
+abbrev pub events : List Turn → List Event
+events [] = []
+events (Made e ∷ ts) = e ∷ events ts
+events (Empty ∷ ts) = events ts
+
+-- So many empty turns.
+abbrev pub empties : ℕ → List Turn
+empties zero = []
+empties (suc n) = Empty ∷ empties n
+
+-- The turns: so many empty ones, and then each event with its empty ones.
+abbrev pub turns_of : ℕ → List Event → List ℕ → List Turn
+turns_of n [] ms = empties n
+turns_of n (e ∷ es) [] = empties n ++ Made e ∷ []
+turns_of n (e ∷ es) (m ∷ ms) = empties n ++ Made e ∷ turns_of m es ms
+
+-- A history: its events, its turns, and how many more events it has room for.
+pub record LogView : Type 0 where
+  pub history : List Event
+  pub turns : List Turn
+  pub spare : ℕ

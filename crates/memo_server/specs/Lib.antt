@@ -1,0 +1,5 @@
+pub mod Views
+pub mod Histories
+pub mod Shards
+pub mod Asks
+pub mod Calls

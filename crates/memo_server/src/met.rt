@@ -1,0 +1,68 @@
+//! What a shard has for an input.
+ghost use Rattle.std.specs.Prelude.{◌≡◌};
+
+use crate::recipe::Recipe;
+use crate::shared_entry::SharedEntry;
+use memo_core::{Event, KeepAnswer, LookAnswer};
+
+/// The entry that an input meets in a shard.
+#[derive(Drop)]
+pub enum Met<R: Recipe> {
+    /// Its own.
+    Same(SharedEntry<R>),
+    /// The one that has the input's digest, with another input.
+    Other(SharedEntry<R>),
+    /// None.
+    Missing,
+}
+
+/// The call that meets an entry, which names the event.
+#[derive(Clone, Copy)]
+pub enum Asked {
+    Look,
+    Keep,
+}
+
+impl Asked {
+    ghost use Rattle.memo_server.specs.Asks.{same_event, other_event};
+
+    /// The event of a call that met the entry of its input.
+    pub fn same_event(self, caller: u64, run: u64, digest: [u8; 32], id: u64) -> Event
+        ensures { result ≡ same_event self caller run digest id }
+    {
+        match self {
+            Asked::Look => Event::Look {
+                caller,
+                run,
+                digest,
+                answer: LookAnswer::Hit(id),
+            },
+            Asked::Keep => Event::Keep {
+                caller,
+                run,
+                digest,
+                answer: KeepAnswer::Found(id),
+            },
+        }
+    }
+
+    /// The event of a call that met another input's entry.
+    pub fn other_event(self, caller: u64, run: u64, digest: [u8; 32], id: u64) -> Event
+        ensures { result ≡ other_event self caller run digest id }
+    {
+        match self {
+            Asked::Look => Event::Look {
+                caller,
+                run,
+                digest,
+                answer: LookAnswer::Clash(id),
+            },
+            Asked::Keep => Event::Keep {
+                caller,
+                run,
+                digest,
+                answer: KeepAnswer::Clash(id),
+            },
+        }
+    }
+}

@@ -1,0 +1,35 @@
+//! What a memo keeps.
+ghost use Rattle.std.specs.Prelude.{◌≡◌, ℕ, List, IfOk, IsTrue, ◌↔◌};
+
+use std::alloc::{AllocError, Global};
+
+/// Inputs with the results that a memo keeps for them. A recipe has no state.
+pub trait Recipe {
+    /// What a result is looked up by.
+    type In: Send + Sync + Drop;
+
+    /// The result of an input.
+    type Out: Send + Sync + Drop;
+
+    /// The out is the definition's value of the input.
+    ghost fits: { Self.In → Self.Out → Type 0 };
+
+    /// The digest of an input, a function of the input alone.
+    ghost digest_of: { Self.In → List ℕ };
+
+    /// The digest under which an input is kept. Inputs of equal digests are told apart by `same`.
+    fn digest(input: &Self::In) -> [u8; 32]
+        ensures { result ≡ digest_of input.now };
+
+    /// Whether the inputs are equal.
+    fn same(a: &Self::In, b: &Self::In) -> bool
+        ensures { IsTrue result ↔ (a.now ≡ b.now) };
+
+    /// An equal input. Fails only for want of memory.
+    fn share_in(alloc: Global, input: &Self::In) -> Result<Self::In, AllocError>
+        ensures { IfOk result (λ copy. copy ≡ input.now) };
+
+    /// An out that fits whatever this one fits. Fails only for want of memory.
+    fn share_out(alloc: Global, out: &Self::Out) -> Result<Self::Out, AllocError>
+        ensures { IfOk result (λ copy. (input : Self.In) → fits input out.now → fits input copy) };
+}

@@ -1,0 +1,268 @@
+//! A shard: live entries by digest, and the history that made them.
+ghost use Rattle.std.specs.Prelude.{◌≡◌, ℕ, ◌<◌, ◌-◌, ◌^◌, ◌++◌, ◌∷◌, [], OnOk, OnErr, IfOk, IfErr, Some, None, length, true};
+ghost use Rattle.std.specs.List.{list_any};
+ghost use Rattle.memo_server.specs.Views.{live_view, entry_view};
+
+use crate::answers::{ShardKeep, ShardLook};
+use crate::live::Live;
+use crate::live_entries::LiveEntries;
+use crate::log::Log;
+use crate::met::{Asked, Met};
+use crate::recipe::Recipe;
+use crate::shared_entry::SharedEntry;
+use memo_core::{Event, KeepAnswer, LookAnswer, Pins};
+use std::alloc::{AllocError, Global};
+use std::marker::Model;
+
+/// Entries by digest in the order of making, and the history that made them. Each call adds the event that its
+/// answer names, and the history replays to the entries. Room for the release of every pin is taken before
+/// the pin is given, so a release takes no memory.
+#[derive(Drop)]
+pub struct Shard<R: Recipe> {
+    alloc: Global,
+    live: LiveEntries<R>,
+    next: u64,
+    pins: usize,
+    log: Log,
+}
+
+impl<R: Recipe> Model for Shard<R> {
+    ghost use Rattle.memo_server.specs.Shards.{ShardView, Keeps};
+
+    ghost Value = { ShardView R.In R.Out };
+
+    ghost view = { λ s. record { live = s.live; next = s.next; history = s.log.history; turns = s.log.turns } };
+
+    ghost invariant = { λ s. Keeps R.digest_of s.pins s.log.spare (record { live = s.live; next = s.next; history = s.log.history; turns = s.log.turns }) };
+}
+
+impl<R: Recipe> Shard<R> {
+    ghost use Rattle.std.specs.Prelude.{◌≡◌, ◌<◌, ◌^◌, IfOk, OnErr};
+    ghost use Rattle.memo_core.specs.Machine.{replayed, has_pin};
+    ghost use Rattle.memo_server.specs.Calls.{AddsOnly, AddsAt, Meets, Stores, LookGives, KeepGives, SweepGives};
+    ghost use Rattle.memo_server.specs.Histories.{events};
+    ghost use Rattle.memo_server.specs.Views.{LiveView, found, released_view, core_entries, core_state};
+
+    /// A shard without entries and without a history.
+    pub fn new(alloc: Global) -> Shard<R>
+        ensures { (result.live ≡ []) × (result.next ≡ 0) × (result.history ≡ []) × (result.turns ≡ []) }
+    {
+        Shard {
+            alloc,
+            live: LiveEntries::new(alloc),
+            next: 0,
+            pins: 0,
+            log: Log::new(alloc),
+        }
+    }
+
+    /// The events of its calls, in order.
+    pub fn history(&self) -> &[Event]
+        ensures is { result.now ≡ self.now.history }
+        ensures of { events self.now.turns ≡ self.now.history }
+        ensures replays { replayed self.now.history ≡ Some (core_state self.now.live self.now.next) }
+    {
+        self.log.events()
+    }
+
+    /// The id that the next stored entry gets. `keep` requires that it is below the last number of its type.
+    pub fn next(&self) -> u64
+        ensures { result ≡ self.now.next }
+    {
+        self.next
+    }
+
+    /// Whether the caller has a pin on the entry of the id, which `release` requires. One walk over the entries.
+    pub fn has_pin(&self, caller: u64, id: u64) -> bool
+        ensures { result ≡ list_any (has_pin caller id) (core_entries self.now.live) }
+    {
+        self.live.has_pin(caller, id)
+    }
+
+    /// Looks for the entry of an input. `Hit` gives the caller one more pin on it and raises its last run to `run`.
+    /// One search by digest, one comparison of inputs. Fails only for want of memory, which changes nothing.
+    pub fn look(&mut self, caller: u64, run: u64, input: R::In) -> Result<ShardLook<R>, AllocError>
+        ensures answer { IfOk result (λ answer. LookGives R.fits R.digest_of self.old caller run input answer self.new) }
+        ensures err { OnErr result (self.new ≡ self.old) }
+    {
+        let digest = R::digest(&input);
+        match self.meet(Asked::Look, caller, run, digest, &input) {
+            Ok(Met::Same(entry)) => Ok(ShardLook::Hit(entry)),
+            Ok(Met::Other(entry)) => Ok(ShardLook::Clash(entry)),
+            Ok(Met::Missing) => match self.note_absent(caller, run, digest) {
+                Ok(()) => Ok(ShardLook::Absent),
+                Err(e) => Err(e),
+            },
+            Err(e) => Err(e),
+        }
+    }
+
+    /// Keeps an out for its input, where no live entry has the input's digest. The caller has a pin on what is
+    /// `Stored` or `Found`. One insertion. Fails only for want of memory, which changes nothing and hands the
+    /// input and the out back.
+    pub fn keep(
+        &mut self,
+        caller: u64,
+        run: u64,
+        input: R::In,
+        out: R::Out,
+    ) -> Result<ShardKeep<R>, (AllocError, R::In, R::Out)>
+        requires fits { R.fits input out }
+        requires next { self.old.next < 2 ^ 64 - 1 }
+        ensures answer { IfOk result (λ answer. KeepGives R.fits R.digest_of self.old caller run input out answer self.new) }
+        ensures back { IfErr result (λ e. (e.1 ≡ input) × (e.2 ≡ out)) }
+        ensures err { OnErr result (self.new ≡ self.old) }
+    {
+        let digest = R::digest(&input);
+        match self.meet(Asked::Keep, caller, run, digest, &input) {
+            Ok(Met::Same(entry)) => Ok(ShardKeep::Found(entry)),
+            Ok(Met::Other(entry)) => Ok(ShardKeep::Clash(entry, input, out)),
+            Ok(Met::Missing) => match self.store(caller, run, digest, input, out) {
+                Ok(entry) => Ok(ShardKeep::Stored(entry)),
+                Err(back) => Err(back),
+            },
+            Err(e) => Err((e, input, out)),
+        }
+    }
+
+    /// Gives up one pin of the caller. Binary search by id. Takes no memory.
+    pub fn release(&mut self, caller: u64, id: u64)
+        requires { list_any (has_pin caller id) (core_entries self.old.live) ≡ true }
+        ensures { AddsAt id (released_view caller) (Event.Release caller id) self.old self.new }
+    {
+        let place = self.live.place_of(id);
+        self.live.release(place, caller);
+        self.pins -= 1;
+        self.log.add(Event::Release { caller, id });
+    }
+
+    /// Drops the entries without pins that were last used below the horizon, and answers how many. One walk.
+    /// Fails only for want of memory, which changes nothing.
+    pub fn sweep(&mut self, caller: u64, horizon: u64) -> Result<u64, AllocError>
+        ensures answer { IfOk result (λ dropped. SweepGives caller horizon dropped self.old self.new) }
+        ensures err { OnErr result (self.new ≡ self.old) }
+    {
+        self.log.reserve(self.pins, 1)?;
+        let before = self.live.len();
+        self.live.sweep(horizon);
+        let dropped = (before - self.live.len()) as u64;
+        self.log.add(Event::Sweep {
+            caller,
+            horizon,
+            dropped,
+        });
+        Ok(dropped)
+    }
+
+    // Meets the entry that has the digest, with the event of what was asked, or none and without an event.
+    fn meet(
+        &mut self,
+        asked: Asked,
+        caller: u64,
+        run: u64,
+        digest: [u8; 32],
+        input: &R::In,
+    ) -> Result<Met<R>, AllocError>
+        requires { digest ≡ R.digest_of input.now }
+        ensures answer { IfOk result (λ met. Meets R.fits R.digest_of self.old asked caller run input.now met self.new) }
+        ensures err { OnErr result (self.new ≡ self.old) }
+    {
+        let Some(place) = self.live.find(&digest) else {
+            return Ok(Met::Missing);
+        };
+        self.log.reserve(self.pins, 2)?;
+        let entry = self.live.share(place)?;
+        let id = entry.id();
+        if !R::same(entry.input(), input) {
+            self.log.add(asked.other_event(caller, run, digest, id));
+            return Ok(Met::Other(entry));
+        }
+        self.live.pin(place, caller, run)?;
+        self.pins += 1;
+        self.log.add(asked.same_event(caller, run, digest, id));
+        Ok(Met::Same(entry))
+    }
+
+    // The event of a look that found nothing.
+    fn note_absent(&mut self, caller: u64, run: u64, digest: [u8; 32]) -> Result<(), AllocError>
+        requires { found digest self.old.live ≡ None }
+        ensures ok { OnOk result (AddsOnly (Event.Look caller run digest LookAnswer.Absent) self.old self.new) }
+        ensures err { OnErr result (self.new ≡ self.old) }
+    {
+        self.log.reserve(self.pins, 1)?;
+        self.log.add(Event::Look {
+            caller,
+            run,
+            digest,
+            answer: LookAnswer::Absent,
+        });
+        Ok(())
+    }
+
+    // A new entry. The shard's own is a copy, so that want of memory can hand the input and the out back.
+    fn store(
+        &mut self,
+        caller: u64,
+        run: u64,
+        digest: [u8; 32],
+        input: R::In,
+        out: R::Out,
+    ) -> Result<SharedEntry<R>, (AllocError, R::In, R::Out)>
+        requires digest { digest ≡ R.digest_of input }
+        requires absent { found digest self.old.live ≡ None }
+        requires fits { R.fits input out }
+        requires next { self.old.next < 2 ^ 64 - 1 }
+        ensures ok { IfOk result (λ s. Stores R.fits digest caller run input out s self.old self.new) }
+        ensures back { IfErr result (λ e. (e.1 ≡ input) × (e.2 ≡ out)) }
+        ensures err { OnErr result (self.new ≡ self.old) }
+    {
+        if let Err(e) = self.log.reserve(self.pins, 2) {
+            return Err((e, input, out));
+        }
+        let own = match copied(self.alloc, self.next, caller, run, &input, &out) {
+            Ok(own) => own,
+            Err(e) => return Err((e, input, out)),
+        };
+        if let Err(e) = self.live.push(digest, own) {
+            return Err((e, input, out));
+        }
+        let id = self.next;
+        let entry = match SharedEntry::new(self.alloc, id, input, out) {
+            Ok(entry) => entry,
+            Err(back) => {
+                self.live.pop();
+                return Err(back);
+            }
+        };
+        self.next += 1;
+        self.pins += 1;
+        self.log.add(Event::Keep {
+            caller,
+            run,
+            digest,
+            answer: KeepAnswer::Stored(id),
+        });
+        Ok(entry)
+    }
+}
+
+// A live entry of copies, held by the caller.
+fn copied<R: Recipe>(
+    alloc: Global,
+    id: u64,
+    caller: u64,
+    run: u64,
+    input: &R::In,
+    out: &R::Out,
+) -> Result<Live<R>, AllocError>
+    requires { R.fits input.now out.now }
+    ensures { IfOk result (λ own. (copy : R.Out) × R.fits input.now copy × (own ≡ live_view (entry_view id input.now copy) run (caller ∷ []))) }
+{
+    let input_copy = R::share_in(alloc, input)?;
+    let out_copy = R::share_out(alloc, out)?;
+    let pins = Pins::one(alloc, caller)?;
+    match SharedEntry::new(alloc, id, input_copy, out_copy) {
+        Ok(shared) => Ok(Live::new(shared, run, pins)),
+        Err((e, _, _)) => Err(e),
+    }
+}
