@@ -13,6 +13,7 @@ use crate::state::Turns;
 use crate::tokens::{Pass, TurnLock, Turned};
 use atomic_table::Seat;
 use std::sync::Wait;
+use std::thread;
 
 // The word with the ticket that is drawn next.
 const TICKET: usize = 0;
@@ -22,6 +23,9 @@ const SERVING: usize = 1;
 
 // A lock is worn from this ticket on.
 const LIMIT: u64 = 1 << 62;
+
+// After so many looks a waiter sleeps. Before, it lets others run, since many turns are short.
+const LOOKS_AWAKE: u32 = 200;
 
 impl<T: Turns> TurnLock<T> {
     // Finds the next ticket, and marks the seat where it is below the limit.
@@ -40,19 +44,25 @@ impl<T: Turns> TurnLock<T> {
         self.table.shared.fetch_add::<Draw<T>>(seat, TICKET, 1)
     }
 
-    // Looks until the ticket's turn has come, and sleeps between two looks while the word stays. The last look takes the slot.
+    // Looks until the ticket's turn has come. Between two looks it lets others run, and later sleeps while the word stays. The last look takes the slot.
     fn await_turn<R: Wait>(&self, rt: &R, seat: &mut Seat<Option<T>, View<T::Entry>>, drawn: u64)
         requires { (seat.old.table_id ≡ self.now.id) × (seat.old.me.0.stage ≡ Drawn drawn) }
         ensures { (seat.new.table_id ≡ seat.old.table_id) × Came T.history T.whose drawn seat.old.me seat.new.me }
     {
+        let mut awake = LOOKS_AWAKE;
         for _ in rt.forever() {
             let now = self.table.shared.load::<Look<T>>(seat, SERVING);
             if now == drawn {
                 return;
             }
-            self.table
-                .shared
-                .park(rt, SERVING, (now & 0xffff_ffff) as u32);
+            if awake > 0 {
+                awake -= 1;
+                thread::yield_now();
+            } else {
+                self.table
+                    .shared
+                    .park(rt, SERVING, (now & 0xffff_ffff) as u32);
+            }
         }
         unreachable!()
     }
