@@ -1,12 +1,11 @@
 -- What the shard's edits are to the machine, to the keys and to the count of pins.
-use Rattle.std.proofs.Common.{◌≡◌, ℕ, zero, suc, ◌+◌, ◌-◌, ◌<◌, Bool, true, false, cond, not, ◌||◌, ◌&&◌, ◌==◌, nat_lt, List, [], ◌∷◌, ◌++◌, length, filter, Some, slice_get, refl, sym, ap, subst, ◌∙◌, arith, length-append}
+use Rattle.std.proofs.Common.{◌≡◌, ℕ, zero, suc, ◌+◌, ◌<◌, Bool, true, false, cond, not, ◌||◌, ◌&&◌, ◌==◌, nat_lt, List, [], ◌∷◌, ◌++◌, length, filter, Some, slice_get, refl, sym, ap, subst, ◌∙◌, arith, length-append}
 use Rattle.std.specs.List.{list_any}
 use Rattle.std.proofs.lemmas.Bool.{eqb-true}
-use Rattle.std.proofs.lemmas.Bool.Decides.{nat_tests}
 use Rattle.memo_core.specs.declared.entries.CoreEntry.{CoreEntry}
 use Rattle.memo_core.specs.Machine.{at_id, pinned, released, is_swept, has_pin, without_first}
 use Rattle.memo_core.proofs.Invariant.{and_true}
-use Rattle.memo_server.specs.Views.{LiveView, EntryView, AreKeyed, at_live, update_at, pinned_view, released_view, has_pin_view, is_stale, total_pins, core_entries}
+use Rattle.memo_server.specs.Views.{LiveView, AreKeyed, at_live, update_at, pinned_view, released_view, has_pin_view, is_stale, total_pins, core_entries}
 use Rattle.memo_server.proofs.Places.{same_some}
 
 length-without_first : (c : ℕ) (ps : List ℕ) → list_any (λ x. x == c) ps ≡ true → length (without_first c ps) + 1 ≡ length ps

@@ -1,12 +1,11 @@
 -- What each call of a shard adds to its history, and what the shard keeps.
-use Rattle.std.proofs.Common.{◌≡◌, ◌≢◌, ℕ, ◌+◌, ◌-◌, ◌^◌, ◌<◌, ◌≤◌, Bool, true, false, not, ◌&&◌, ◌==◌, nat_lt, List, [], ◌∷◌, ◌++◌, length, filter, Option, Some, None, slice_get, refl, sym, ap, subst, ◌∙◌, arith}
+use Rattle.std.proofs.Common.{◌≡◌, ℕ, ◌+◌, ◌-◌, ◌^◌, ◌<◌, ◌≤◌, Bool, true, false, not, ◌==◌, nat_lt, List, [], ◌∷◌, ◌++◌, length, filter, Some, None, slice_get, refl, sym, ap, subst, ◌∙◌, arith}
 use Rattle.std.specs.List.{list_any}
 use Rattle.std.proofs.lemmas.Bool.Decides.{nat_tests}
-use Rattle.memo_core.specs.declared.state.CoreState.{CoreState}
 use Rattle.memo_core.specs.declared.event.Event.{Event}
 use Rattle.memo_core.specs.declared.event.Event.TheVariants.{Look, Keep, Release, Sweep}
-use Rattle.memo_core.specs.declared.event.LookAnswer.TheVariants.{Hit, Absent, Clash}
-use Rattle.memo_core.specs.declared.event.KeepAnswer.TheVariants.{Stored, Found, Clash as KeepClash}
+use Rattle.memo_core.specs.declared.event.LookAnswer.TheVariants.{Absent}
+use Rattle.memo_core.specs.declared.event.KeepAnswer.TheVariants.{Stored}
 use Rattle.memo_core.specs.Machine.{replayed, after_event, start, when, has_digest, names, has_pin}
 use Rattle.memo_core.proofs.Lists.{RisingIds}
 use Rattle.memo_core.proofs.Invariant.{replayed-push, Fits-replayed}

@@ -1,5 +1,5 @@
 -- Turns and their events.
-use Rattle.std.proofs.Common.{◌≡◌, ℕ, zero, suc, ◌+◌, ◌-◌, ◌<◌, ◌≤◌, List, [], ◌∷◌, ◌++◌, length, set, get_or, refl, sym, ap, ap₂, ◌∙◌, arith, append_assoc, add-one, length-append}
+use Rattle.std.proofs.Common.{◌≡◌, ℕ, zero, suc, ◌+◌, ◌<◌, ◌≤◌, List, [], ◌∷◌, ◌++◌, length, set, get_or, refl, sym, ap, ◌∙◌, arith, append_assoc, add-one, length-append}
 use Rattle.memo_core.specs.declared.event.Event.{Event}
 use Rattle.memo_server.specs.declared.turn.Turn.{Turn}
 use Rattle.memo_server.specs.declared.turn.Turn.TheVariants.{Made, Empty}

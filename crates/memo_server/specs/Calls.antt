@@ -1,7 +1,7 @@
 -- What the calls of a shard answer, and what they make of it.
-use Rattle.std.specs.Prelude.{◌≡◌, ◌≢◌, ℕ, ◌+◌, List, [], ◌∷◌, ◌++◌, filter, not, length, Option, Some, None}
+use Rattle.std.specs.Prelude.{◌≡◌, ◌≢◌, ℕ, ◌+◌, List, [], ◌∷◌, ◌++◌, filter, not, length, Some, None}
 use Rattle.memo_core.specs.declared.event.Event.{Event}
-use Rattle.memo_core.specs.declared.event.Event.TheVariants.{Look, Keep, Release, Sweep}
+use Rattle.memo_core.specs.declared.event.Event.TheVariants.{Look, Keep, Sweep}
 use Rattle.memo_core.specs.declared.event.LookAnswer.TheVariants.{Hit as HitAnswer, Absent as AbsentAnswer, Clash as ClashAnswer}
 use Rattle.memo_core.specs.declared.event.KeepAnswer.TheVariants.{Stored as StoredAnswer, Found as FoundAnswer, Clash as KeepClashAnswer}
 use Rattle.memo_core.specs.Machine.{after_event}
@@ -11,11 +11,10 @@ use Rattle.memo_server.specs.declared.answers.ShardLook.TheVariants.{Hit, Absent
 use Rattle.memo_server.specs.declared.answers.ShardKeep.{ShardKeep}
 use Rattle.memo_server.specs.declared.answers.ShardKeep.TheVariants.{Stored, Found, Clash as KeepClash}
 use Rattle.memo_server.specs.declared.met.Asked.{Asked}
-use Rattle.memo_server.specs.declared.met.Asked.TheVariants.{Look as LookAsked, Keep as KeepAsked}
 use Rattle.memo_server.specs.declared.met.Met.{Met}
 use Rattle.memo_server.specs.declared.met.Met.TheVariants.{Same, Other, Missing}
 use Rattle.memo_server.specs.Asks.{same_event, other_event}
-use Rattle.memo_server.specs.Views.{EntryView, LiveView, entry_view, entry_of, live_view, found, at_live, pinned_view, released_view, is_stale, core_state}
+use Rattle.memo_server.specs.Views.{EntryView, LiveView, entry_view, entry_of, live_view, found, at_live, pinned_view, is_stale, core_state}
 use Rattle.memo_server.specs.Shards.{ShardView}
 
 module _ {I O : Type 0} where

@@ -3,3 +3,5 @@ pub mod Histories
 pub mod Shards
 pub mod Asks
 pub mod Calls
+pub mod Callers
+pub mod Turns

@@ -11,12 +11,15 @@ mod live;
 mod live_entries;
 mod log;
 mod met;
+mod ops;
+mod plays;
 mod recipe;
 mod shard;
 mod shared_entry;
 mod turn;
 
 pub use answers::{ShardKeep, ShardLook};
+pub use ops::{ShardOp, ShardReply};
 pub use recipe::Recipe;
 pub use shard::Shard;
 pub use shared_entry::SharedEntry;

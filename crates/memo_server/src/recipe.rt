@@ -6,10 +6,10 @@ use std::alloc::{AllocError, Global};
 /// Inputs with the results that a memo keeps for them. A recipe has no state.
 pub trait Recipe {
     /// What a result is looked up by.
-    type In: Send + Sync + Drop;
+    type In: Drop;
 
     /// The result of an input.
-    type Out: Send + Sync + Drop;
+    type Out: Drop;
 
     /// The out is the definition's value of the input.
     ghost fits: { Self.In → Self.Out → Type 0 };

@@ -2,6 +2,7 @@
 ghost use Rattle.std.specs.Prelude.{◌≡◌, ℕ, ◌<◌, ◌-◌, ◌^◌, ◌++◌, ◌∷◌, [], OnOk, OnErr, IfOk, IfErr, Some, None, length, true};
 ghost use Rattle.std.specs.List.{list_any};
 ghost use Rattle.memo_server.specs.Views.{live_view, entry_view};
+ghost use Rattle.memo_server.specs.declared.turn.Turn.TheVariants.{Empty};
 
 use crate::answers::{ShardKeep, ShardLook};
 use crate::live::Live;
@@ -152,6 +153,15 @@ impl<R: Recipe> Shard<R> {
             dropped,
         });
         Ok(dropped)
+    }
+
+    // A turn that met want of memory. Takes no memory.
+    pub(crate) fn note_empty(&mut self)
+        requires { length self.old.turns < 2 ^ 63 }
+        ensures turns { self.new.turns ≡ self.old.turns ++ Empty ∷ [] }
+        ensures same { (self.new.history ≡ self.old.history) × (self.new.live ≡ self.old.live) × (self.new.next ≡ self.old.next) }
+    {
+        self.log.note_empty();
     }
 
     // Meets the entry that has the digest, with the event of what was asked, or none and without an event.

@@ -4,6 +4,7 @@ use super::*;
 use memo_core::replay;
 use std::alloc::{AllocError, Global};
 use std::test::Fail;
+use turn_lock::Turns;
 
 // Twice a number, with one digest for all numbers.
 #[derive(Drop)]
@@ -198,5 +199,15 @@ fn a_kept_entry_is_found_again(rt: HostRuntime) -> Result<(), Fail> {
     assert!(rt;
         matches!(&end, Some(state) if state.entries.len() == 2 && state.entries.get(0).used == 3)
     );
+    Ok(())
+}
+
+#[test]
+fn a_turn_makes_one_call(rt: HostRuntime) -> Result<(), Fail> {
+    let mut shard = Shard::<Twice>::new(rt.alloc());
+    let op = ShardOp::Look { run: 1, input: 5 };
+    let reply = shard.play(3, op);
+    assert!(rt; matches!(&reply, ShardReply::Look(Ok(ShardLook::Absent))));
+    assert!(rt; shard.history().len() == 1);
     Ok(())
 }

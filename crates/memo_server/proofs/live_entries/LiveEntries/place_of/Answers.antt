@@ -1,4 +1,4 @@
-use Rattle.std.proofs.Common.{rules, ◌≡◌, ℕ, ◌<◌, List, Some, length, slice_get, ap, sym, subst, ◌∙◌}
+use Rattle.std.proofs.Common.{rules, ◌≡◌, ℕ, ◌<◌, List, Some, length, slice_get, sym, subst}
 use Rattle.std.proofs.lemmas.List.Sorted.{answers_always}
 use Rattle.memo_server.specs.Views.{LiveView, HasRisingIds}
 use Rattle.memo_server.proofs.Search.{place-found, none-missing}

@@ -1,4 +1,4 @@
-use Rattle.std.proofs.Common.{◌≡◌, ◌∙◌, ◌++◌, ◌∷◌, [], ap, ap₂, sym, arith, ℕ, ◌+◌, ◌<◌}
+use Rattle.std.proofs.Common.{◌∙◌, ◌++◌, ◌∷◌, [], ap, ap₂, arith}
 use Rattle.memo_server.specs.declared.turn.Turn.TheVariants.{Made}
 use Rattle.memo_server.specs.Histories.{LogView, turns_of}
 use Rattle.memo_server.proofs.TurnLists.{turns-add}

@@ -1,4 +1,4 @@
-use Rattle.std.proofs.Common.{◌≡◌, ℕ, ◌+◌, ◌-◌, ◌<◌, ◌≤◌, length, get_or, List, [], ◌∷◌, ◌++◌, ◌∙◌, ap, sym, subst, arith, rules}
+use Rattle.std.proofs.Common.{◌≡◌, ◌+◌, ◌-◌, ◌<◌, length, [], ◌∷◌, ◌++◌, ◌∙◌, ap, arith, rules}
 use Rattle.memo_server.specs.declared.turn.Turn.TheVariants.{Empty}
 use Rattle.memo_server.specs.Histories.{LogView, turns_of}
 use Rattle.memo_server.proofs.TurnLists.{turns-before, turns-after, before-within, after-within}

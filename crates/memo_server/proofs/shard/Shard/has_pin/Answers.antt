@@ -1,4 +1,4 @@
-use Rattle.std.proofs.Common.{ap, ◌∙◌, Bool}
+use Rattle.std.proofs.Common.{ap, ◌∙◌}
 use Rattle.std.specs.List.{list_any}
 use Rattle.memo_core.specs.Machine.{has_pin}
 use Rattle.memo_server.specs.Views.{core_entries}

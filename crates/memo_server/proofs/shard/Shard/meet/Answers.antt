@@ -1,19 +1,12 @@
-use Rattle.std.proofs.Common.{◌≡◌, ◌≢◌, ℕ, ◌+◌, ◌-◌, ◌<◌, ◌≤◌, true, not, List, [], ◌∷◌, ◌++◌, length, filter, Option, Some, None, slice_get, refl, sym, ap, ap₂, subst, ◌∙◌, arith}
-use Rattle.std.specs.List.{list_any}
-use Rattle.memo_core.specs.declared.event.Event.TheVariants.{Look, Keep, Release, Sweep}
-use Rattle.memo_core.specs.declared.event.LookAnswer.TheVariants.{Absent}
-use Rattle.memo_core.specs.declared.event.KeepAnswer.TheVariants.{Stored}
-use Rattle.memo_core.specs.Machine.{has_pin}
+use Rattle.std.proofs.Common.{◌≡◌, ℕ, ◌+◌, List, [], ◌∷◌, ◌++◌, refl, sym, ap, ap₂, subst, ◌∙◌, arith}
 use Rattle.memo_server.specs.declared.turn.Turn.TheVariants.{Made}
-use Rattle.memo_server.specs.Views.{LiveView, EntryView, entry_view, live_view, at_live, update_at, pinned_view, released_view, is_stale, found, core_entries, total_pins}
+use Rattle.memo_server.specs.Views.{EntryView, at_live, pinned_view}
 use Rattle.memo_server.specs.Asks.{same_event, other_event}
 use Rattle.memo_core.specs.declared.event.Event.{Event}
-use Rattle.memo_server.specs.declared.turn.Turn.{Turn}
-use Rattle.memo_server.specs.Shards.{ShardView}
 use Rattle.memo_server.specs.Calls.{IsLiveEntry}
-use Rattle.memo_server.proofs.Places.{rising-places, update-live, place-within}
-use Rattle.memo_server.proofs.Entries.{pin-at, keys-update, keys-append, keys-filter, key-at, total-pinned, total-released, total-append, total-swept, swept-count}
-use Rattle.memo_server.proofs.Steps.{added, rising-from, keeps-step, met-entry, event-other, event-same, live-entry, pin-here, event-released, legal-absent, legal-other, legal-same, legal-stored, legal-released, legal-swept}
+use Rattle.memo_server.proofs.Places.{update-live, place-within}
+use Rattle.memo_server.proofs.Entries.{keys-update, total-pinned}
+use Rattle.memo_server.proofs.Steps.{added, rising-from, keeps-step, met-entry, event-other, event-same, live-entry}
 use Rattle.memo_server.proofs.shard.Shard.meet.Goals as goal
 
 pub invariant_of-self-then-not-same : goal.invariant_of-self-then-not-same
@@ -43,8 +36,8 @@ returns-then-not-same-clause-answer g c =
       },
     )
 
-pub pin-requires-after_bounds : goal.pin-requires-after_bounds
-pin-requires-after_bounds g c = λ κs l. place-within c.self.inside.live c.in-Some.place (c.args.digest, c.in-Some.ensures.0) c.in-Some.ensures.1
+pub pin-requires : goal.pin-requires
+pin-requires g c = place-within c.self.inside.live c.in-Some.place (c.args.digest, c.in-Some.ensures.0) c.in-Some.ensures.1
 
 pub overflow_add-self : goal.overflow_add-self
 overflow_add-self g c = omega (arith, c.in_ok-reserve.ensures.fits)

@@ -1,15 +1,9 @@
-use Rattle.std.proofs.Common.{◌≡◌, ◌≢◌, ℕ, ◌+◌, ◌-◌, ◌<◌, ◌≤◌, true, not, List, [], ◌∷◌, ◌++◌, length, filter, Option, Some, None, slice_get, refl, sym, ap, subst, ◌∙◌, arith}
-use Rattle.std.specs.List.{list_any}
-use Rattle.memo_core.specs.declared.event.Event.TheVariants.{Look, Keep, Release, Sweep}
+use Rattle.std.proofs.Common.{◌≡◌, None, refl, sym, subst, arith}
+use Rattle.memo_core.specs.declared.event.Event.TheVariants.{Look}
 use Rattle.memo_core.specs.declared.event.LookAnswer.TheVariants.{Absent}
-use Rattle.memo_core.specs.declared.event.KeepAnswer.TheVariants.{Stored}
-use Rattle.memo_core.specs.Machine.{has_pin}
-use Rattle.memo_server.specs.declared.turn.Turn.TheVariants.{Made}
-use Rattle.memo_server.specs.Views.{LiveView, entry_view, live_view, at_live, update_at, pinned_view, released_view, is_stale, found, core_entries, total_pins}
+use Rattle.memo_server.specs.Views.{found}
 use Rattle.memo_server.specs.Shards.{ShardView}
-use Rattle.memo_server.proofs.Places.{rising-places, update-live}
-use Rattle.memo_server.proofs.Entries.{pin-at, keys-update, keys-append, keys-filter, key-at, total-pinned, total-released, total-append, total-swept, swept-count}
-use Rattle.memo_server.proofs.Steps.{added, rising-from, keeps-step, legal-absent, legal-other, legal-same, legal-stored, legal-released, legal-swept}
+use Rattle.memo_server.proofs.Steps.{added, keeps-step, legal-absent}
 use Rattle.memo_server.proofs.shard.Shard.note_absent.Goals as goal
 
 pub invariant_of-self-2 : goal.invariant_of-self-2

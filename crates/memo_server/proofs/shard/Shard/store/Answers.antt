@@ -1,18 +1,11 @@
-use Rattle.std.proofs.Common.{◌≡◌, ◌≢◌, ℕ, ◌+◌, ◌-◌, ◌^◌, ◌<◌, ◌≤◌, true, not, List, [], ◌∷◌, ◌++◌, length, filter, Option, Some, None, slice_get, refl, sym, ap, ap₂, subst, ◌∙◌, arith}
-use Rattle.std.specs.List.{list_any}
-use Rattle.memo_core.specs.declared.event.Event.TheVariants.{Look, Keep, Release, Sweep}
-use Rattle.memo_core.specs.declared.event.LookAnswer.TheVariants.{Absent}
+use Rattle.std.proofs.Common.{◌≡◌, ℕ, ◌+◌, ◌-◌, ◌^◌, ◌<◌, [], ◌∷◌, ◌++◌, None, refl, sym, ap, subst, ◌∙◌, arith}
+use Rattle.memo_core.specs.declared.event.Event.TheVariants.{Keep}
 use Rattle.memo_core.specs.declared.event.KeepAnswer.TheVariants.{Stored}
-use Rattle.memo_core.specs.Machine.{has_pin}
 use Rattle.memo_server.specs.declared.turn.Turn.TheVariants.{Made}
-use Rattle.memo_server.specs.Views.{LiveView, EntryView, entry_view, live_view, at_live, update_at, pinned_view, released_view, is_stale, found, core_entries, total_pins}
-use Rattle.memo_server.specs.Asks.{same_event, other_event}
-use Rattle.memo_core.specs.declared.event.Event.{Event}
-use Rattle.memo_server.specs.declared.turn.Turn.{Turn}
+use Rattle.memo_server.specs.Views.{LiveView, EntryView, entry_view, live_view, found}
 use Rattle.memo_server.specs.Shards.{ShardView}
-use Rattle.memo_server.proofs.Places.{rising-places, update-live, place-within}
-use Rattle.memo_server.proofs.Entries.{pin-at, keys-update, keys-append, keys-filter, key-at, total-pinned, total-released, total-append, total-swept, swept-count}
-use Rattle.memo_server.proofs.Steps.{added, rising-from, keeps-step, met-entry, event-other, event-same, live-entry, pin-here, event-released, legal-absent, legal-other, legal-same, legal-stored, legal-released, legal-swept}
+use Rattle.memo_server.proofs.Entries.{keys-append, total-append}
+use Rattle.memo_server.proofs.Steps.{added, keeps-step, legal-stored}
 use Rattle.memo_server.proofs.shard.Shard.store.Goals as goal
 
 pub overflow_add-self-2 : goal.overflow_add-self-2

@@ -1,15 +1,8 @@
-use Rattle.std.proofs.Common.{◌≡◌, ◌≢◌, ℕ, ◌+◌, ◌-◌, ◌<◌, ◌≤◌, true, not, List, [], ◌∷◌, ◌++◌, length, filter, Option, Some, None, slice_get, refl, sym, ap, subst, ◌∙◌, arith}
-use Rattle.std.specs.List.{list_any}
-use Rattle.memo_core.specs.declared.event.Event.TheVariants.{Look, Keep, Release, Sweep}
-use Rattle.memo_core.specs.declared.event.LookAnswer.TheVariants.{Absent}
-use Rattle.memo_core.specs.declared.event.KeepAnswer.TheVariants.{Stored}
-use Rattle.memo_core.specs.Machine.{has_pin}
-use Rattle.memo_server.specs.declared.turn.Turn.TheVariants.{Made}
-use Rattle.memo_server.specs.Views.{LiveView, entry_view, live_view, at_live, update_at, pinned_view, released_view, is_stale, found, core_entries, total_pins}
-use Rattle.memo_server.specs.Shards.{ShardView}
-use Rattle.memo_server.proofs.Places.{rising-places, update-live}
-use Rattle.memo_server.proofs.Entries.{pin-at, keys-update, keys-append, keys-filter, key-at, total-pinned, total-released, total-append, total-swept, swept-count}
-use Rattle.memo_server.proofs.Steps.{added, rising-from, keeps-step, legal-absent, legal-other, legal-same, legal-stored, legal-released, legal-swept}
+use Rattle.std.proofs.Common.{◌≡◌, ℕ, ◌-◌, not, List, length, filter, refl, sym, ap, ◌∙◌, arith}
+use Rattle.memo_core.specs.declared.event.Event.TheVariants.{Sweep}
+use Rattle.memo_server.specs.Views.{LiveView, is_stale}
+use Rattle.memo_server.proofs.Entries.{keys-filter, total-swept, swept-count}
+use Rattle.memo_server.proofs.Steps.{added, keeps-step, legal-swept}
 use Rattle.memo_server.proofs.shard.Shard.sweep.Goals as goal
 
 pub overflow_sub-dropped : goal.overflow_sub-dropped
