@@ -1,0 +1,5 @@
+pub mod Rolls
+pub mod Windows
+pub mod WindowLaws
+pub mod CutLaws
+pub mod Parts
