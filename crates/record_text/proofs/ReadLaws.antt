@@ -1,5 +1,5 @@
 -- What a reader has used of its script, line by line.
-use Rattle.std.proofs.Common.{◌≡◌, ◌≢◌, ℕ, ◌+◌, ◌-◌, ◌<◌, ◌≤◌, Bool, true, false, List, [], ◌∷◌, ◌++◌, length, take, drop, refl, sym, ap, ◌∙◌, subst, arith, inl, inr, length-take, length-drop, append-nil, append_assoc, take-append-drop}
+use Rattle.std.proofs.Common.{◌≡◌, ◌≢◌, ℕ, ◌+◌, ◌-◌, ◌<◌, ◌≤◌, Bool, true, false, List, [], ◌∷◌, ◌++◌, length, take, drop, refl, sym, ap, ◌∙◌, subst, arith, inl, inr, length-take, length-drop, append-nil, append_assoc, take-append-drop, ◌⊎◌}
 use Rattle.std.specs.Prelude.{Option, Ok, Err}
 use Rattle.std.specs.declared.option.Option.TheVariants.{Some}
 use Rattle.std.proofs.lemmas.Bool.Decides.{nat_tests}
@@ -7,7 +7,7 @@ use Rattle.definitions.specs.Records.{text_of}
 use Rattle.definitions.proofs.ToldBytes.{told_same, told_then}
 use Rattle.record_text.specs.Table.{asked, command_of, IsForm}
 use Rattle.record_text.specs.Script.{ACommand, ARecord, Script, from_line, step, after_records, fits_command}
-use Rattle.record_text.specs.Reading.{IsLine, Goes, Comes, Sound, Used, Uses, Stops, RecordsAre, CommandIs, NextLineIs, SamePlace}
+use Rattle.record_text.specs.Reading.{IsLine, Goes, Comes, Sound, Used, Uses, Stops, RecordsAre, CommandIs, Lacks, LineTaken, RecordsLack, Taken, NextLineIs, SamePlace}
 use Rattle.record_text.specs.declared.reading.Reading.{Reading}
 use Rattle.record_text.specs.declared.script_fault.ScriptFault.{ScriptFault}
 use Rattle.record_text.specs.declared.script_fault.Why.{Why}
@@ -193,6 +193,22 @@ module _ (r s t : Reading) (lr ls : Option (List ℕ)) (looks : Uses r s lr ls [
       up_to_records : (full : Bool) (y : List ℕ) → Goes t.ended t.ahead full y → from_line full ACommand (r.line + 1) (take skip s.ahead ++ y) ≡ after_records t.line head n [] (λ next. from_line full next (t.line + 1) y)
       up_to_records full y goes = begin full y goes ∙ step-asks t.line (take len s.ahead) (λ next. from_line full next (t.line + 1) y) head n is
 
+      -- the line or a record line was not held
+      pub command_touch : {S : Type 0} (a b c : S) → LineTaken a b r s → (c ≡ b) ⊎ RecordsLack t.line n t → Taken a c r
+      command_touch a b c (inr lack) records = inr (lack.0, (r.line + 1, lack.1 ACommand (r.line + 1)))
+      command_touch a b c (inl same) (inl still) = inl (still ∙ same.source)
+      command_touch a b c (inl same) (inr lack) =
+          let found = lack.1 head in
+          inr (
+            sym same.ended ∙ sym ended ∙ lack.0,
+            (
+              found.0,
+              ap (λ (l : List ℕ). from_line true ACommand (r.line + 1) l) (sym same.ahead ∙ sym (take-append-drop skip s.ahead) ∙ ap (λ (l : List ℕ). take skip s.ahead ++ l) (sym ahead))
+                  ∙ up_to_records true t.ahead (λ e. true_false (sym e ∙ lack.0))
+                  ∙ found.1,
+            ),
+          )
+
       pub command_is : (got : List (List ℕ)) → RecordsAre t.line n u.line u.ended u.room used u.ahead (Ok got) → CommandIs r.line u.line t.line u.ended u.room (take skip s.ahead ++ used) u.ahead (Ok (Some (command_of head got)))
       command_is got records full x goes =
           ap (λ (l : List ℕ). from_line full ACommand (r.line + 1) l) (append_assoc (take skip s.ahead) used x)
@@ -218,6 +234,57 @@ module _ (r s t : Reading) (lr ls : Option (List ℕ)) (looks : Uses r s lr ls [
                 ∙ up_to_records full (used ++ (u.ahead ++ x)) (λ e. let st = rest.bytes.stays e in let g = goes_on u full x comes st.0 in (g.0, ap (λ (l : List ℕ). used ++ l) g.1 ∙ sym st.1))
                 ∙ other.1 full x comes,
           ))
+
+-- a look takes where the next line is not held
+pub line_lacks : {S : Type 0} (a b : S) (r s : Reading) → LineTaken a b r s → s.ended ≡ false → Lacks s.ahead → (r.ended ≡ false) × Lacks r.ahead
+line_lacks a b r s (inl same) open' lacks = (sym same.ended ∙ open', subst Lacks same.ahead lacks)
+line_lacks a b r s (inr lack) open' lacks = lack
+
+pub line_same : {S : Type 0} (a b : S) (r s t : Reading) → LineTaken a b r s → t.ended ≡ s.ended → t.ahead ≡ s.ahead → LineTaken a b r t
+line_same a b r s t (inl same) ended ahead = inl (record { source = same.source; ended = ended ∙ same.ended; ahead = ahead ∙ same.ahead })
+line_same a b r s t (inr lack) ended ahead = inr lack
+
+-- nothing was taken since a state whose bytes ahead were used up to these
+pub record Held {S : Type 0} (a b : S) (r s : Reading) (used : List ℕ) : Type 0 where
+  pub source : b ≡ a
+  pub ended : s.ended ≡ r.ended
+  pub ahead : r.ahead ≡ used ++ s.ahead
+
+module _ {S : Type 0} (at n left : ℕ) (a b c : S) (r s t : Reading) (got : List (List ℕ)) (used : List ℕ) where
+  pub records_taken : IsReading at n s left got used → 0 < left → Held a b r s used ⊎ RecordsLack at n r → LineTaken b c s t → Held a c r t used ⊎ RecordsLack at n r
+  records_taken reading some (inr lack) line = inr lack
+  records_taken reading some (inl held) (inl same) = inl (record {
+    source = same.source ∙ held.source;
+    ended = same.ended ∙ held.ended;
+    ahead = held.ahead ∙ ap (λ (l : List ℕ). used ++ l) (sym same.ahead);
+  })
+  records_taken reading some (inl held) (inr lack) = inr (
+    sym held.ended ∙ lack.0,
+    λ head. (
+      s.line + 1,
+      ap (λ (l : List ℕ). after_records at head n [] (λ next. from_line true next (at + 1) l)) held.ahead
+          ∙ reading head true s.ahead (λ e. true_false (sym e ∙ lack.0))
+          ∙ one_read at head left got (λ next. from_line true next (s.line + 1) s.ahead) some
+          ∙ lack.1 (ARecord at head (left - 1) got) (s.line + 1),
+    ),
+  )
+
+pub held_line : {S : Type 0} (at n : ℕ) (a b : S) (r s t : Reading) (used : List ℕ) (skip : ℕ) → t.ended ≡ s.ended → t.ahead ≡ drop skip s.ahead → Held a b r s used ⊎ RecordsLack at n r → Held a b r t (used ++ take skip s.ahead) ⊎ RecordsLack at n r
+held_line at n a b r s t used skip ended ahead (inr lack) = inr lack
+held_line at n a b r s t used skip ended ahead (inl held) = inl (record {
+  source = held.source;
+  ended = ended ∙ held.ended;
+  ahead = held.ahead ∙ ap (λ (l : List ℕ). used ++ l) (sym (take-append-drop skip s.ahead) ∙ ap (λ (l : List ℕ). take skip s.ahead ++ l) (sym ahead)) ∙ sym (append_assoc used (take skip s.ahead) t.ahead);
+})
+
+pub records_touch : {S : Type 0} (at n : ℕ) (a b : S) (r s : Reading) (used : List ℕ) → Held a b r s used ⊎ RecordsLack at n r → (b ≡ a) ⊎ RecordsLack at n r
+records_touch at n a b r s used (inl held) = inl held.source
+records_touch at n a b r s used (inr lack) = inr lack
+
+-- a command line that was not held
+pub line_touch : {S : Type 0} (a b : S) (r s : Reading) → LineTaken a b r s → Taken a b r
+line_touch a b r s (inl same) = inl same.source
+line_touch a b r s (inr lack) = inr (lack.0, (r.line + 1, lack.1 ACommand (r.line + 1)))
 
 -- whether the records of a command fit, by their text
 pub fits_not : (records : List (List ℕ)) (n : ℕ) → n ≡ length (text_of records) → 268435456 < n → fits_command records ≡ false

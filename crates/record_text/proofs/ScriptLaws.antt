@@ -13,6 +13,7 @@ use Rattle.record_text.specs.declared.script_fault.Why.TheVariants.{LongLine, Lo
 use Rattle.record_text.specs.declared.table.Head.{Head}
 use Rattle.record_text.specs.declared.table.Asked.{Asked}
 use Rattle.record_text.specs.declared.table.Asked.TheVariants.{Asks, Refuses}
+pub use Rattle.record_text.proofs.LineLaws.{whole_lines-used}
 use Rattle.record_text.proofs.LineLaws.{pieces_byte, pieces_line, pieces_none}
 
 -- the first `most` bytes of a script count

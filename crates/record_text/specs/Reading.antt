@@ -32,13 +32,17 @@ pub record IsLine (ended : Bool) (ahead : List ℕ) (n skip : ℕ) : Type 0 wher
   pub ends : ended ≡ false → EndsLine (take skip ahead)
   pub reads : (full : Bool) (x : List ℕ) (w : Awaits) (num : ℕ) → Goes ended (drop skip ahead) full x → from_line full w num (take skip ahead ++ x) ≡ step w num (take n ahead) (λ next. from_line full next (num + 1) x)
 
+-- the next line does not end in these bytes, and more may come
+abbrev pub Lacks : List ℕ → Type 0
+Lacks ahead = (w : Awaits) (num : ℕ) → from_line true w num ahead ≡ ([], Faulty num LongScript)
+
 -- what a look at the bytes ahead finds
 abbrev pub FoundIs : Bool → ℕ → List ℕ → Found → Type 0
 FoundIs ended room ahead (Line n skip) = IsLine ended ahead n skip
 FoundIs ended room ahead End = (ended ≡ true) × (ahead ≡ [])
 FoundIs ended room ahead Long = (full : Bool) (x : List ℕ) (w : Awaits) (num : ℕ) → from_line full w num (ahead ++ x) ≡ ([], Faulty num LongLine)
 FoundIs ended room ahead Cut = (room ≡ 0) × ((w : Awaits) (num : ℕ) → from_line true w num ahead ≡ ([], Faulty num LongScript))
-FoundIs ended room ahead More = (ended ≡ false) × (0 < room) × HasNoLine ahead
+FoundIs ended room ahead More = (ended ≡ false) × (0 < room) × HasNoLine ahead × Lacks ahead
 
 -- the state of a reader fits its source, which has `left`: a source that ended has nothing left, and lines can be counted
 pub record Sound (r : Reading) (left : Option (List ℕ)) : Type 0 where
@@ -121,3 +125,25 @@ pub record SamePlace (old new : Reading) : Type 0 where
   pub line : new.line ≡ old.line
   pub last : new.last ≡ old.last
   pub fault : new.fault ≡ old.fault
+
+-- nothing was taken: the source is as before, and so is what the reader holds
+pub record Untouched {S : Type 0} (old_source new_source : S) (old new : Reading) : Type 0 where
+  pub source : new_source ≡ old_source
+  pub ended : new.ended ≡ old.ended
+  pub ahead : new.ahead ≡ old.ahead
+
+-- where something was taken, the next line was not held
+abbrev pub LineTaken : {S : Type 0} → S → S → Reading → Reading → Type 0
+LineTaken old_source new_source old new = Untouched old_source new_source old new ⊎ (old.ended ≡ false) × Lacks old.ahead
+
+-- the bytes ahead of a reader lack a record line of the command on line `at`, and more may come
+abbrev pub RecordsLack : ℕ → ℕ → Reading → Type 0
+RecordsLack at n r = (r.ended ≡ false) × ((head : Head) → (num : ℕ) × (after_records at head n [] (λ next. from_line true next (at + 1) r.ahead) ≡ ([], Faulty num LongScript)))
+
+-- the bytes ahead of a reader do not show yet what comes next, and more may come
+abbrev pub NeedsMore : Reading → Type 0
+NeedsMore r = (r.ended ≡ false) × ((num : ℕ) × (from_line true ACommand (r.line + 1) r.ahead ≡ ([], Faulty num LongScript)))
+
+-- where something was taken, the bytes ahead did not show what comes next
+abbrev pub Taken : {S : Type 0} → S → S → Reading → Type 0
+Taken old_source new_source old = (new_source ≡ old_source) ⊎ NeedsMore old

@@ -2,7 +2,7 @@
 ghost use Rattle.std.specs.Prelude.{◌≡◌, ◌≢◌, ◌<◌, ◌≤◌, ◌+◌, ◌-◌, ◌^◌, ◌++◌, ◌⊎◌, [], ℕ, List, length, true, false, IfOk, IfErr, IsErrOf, IsSome, None, Some, Err};
 ghost use Rattle.definitions.specs.Outside.{Told, Rose};
 ghost use Rattle.record_text.specs.Script.{commands};
-ghost use Rattle.record_text.specs.Reading.{Sound, Uses, LookIs, RecordsAre, CommandIs, NextLineIs, NextTold, NextTaken, LastIs, SamePlace, to_come};
+ghost use Rattle.record_text.specs.Reading.{Sound, Uses, LookIs, RecordsAre, CommandIs, NextLineIs, NextTold, NextTaken, LastIs, SamePlace, LineTaken, RecordsLack, Taken, to_come};
 ghost use Rattle.record_text.specs.declared.script_fault.ScriptFault.{ScriptFault};
 ghost use Rattle.record_text.specs.declared.script_fault.Why.TheVariants.{Read, Mem};
 
@@ -107,6 +107,7 @@ impl<'a, S: Source> ScriptReader<'a, S> {
         ensures used { Uses self.old.reading self.new.reading (S.left self.old.source.now) (S.left self.new.source.now) [] }
         ensures sound { Sound self.new.reading (S.left self.new.source.now) }
         ensures place { SamePlace self.old.reading self.new.reading }
+        ensures touch { LineTaken self.old.source.now self.new.source.now self.old.reading self.new.reading }
         ensures later { S.faults self.old.source.now ≤ S.faults self.new.source.now }
         ensures failed { IsErrOf result Why.Read → Rose (S.faults self.old.source.now) (S.faults self.new.source.now) }
     {
@@ -134,6 +135,7 @@ impl<'a, S: Source> ScriptReader<'a, S> {
         ensures same { self.new.source.ghost_name ≡ self.old.source.ghost_name }
         ensures sound { Sound self.new.reading (S.left self.new.source.now) }
         ensures place { SamePlace self.old.reading self.new.reading }
+        ensures touch { LineTaken self.old.source.now self.new.source.now self.old.reading self.new.reading }
         ensures later { S.faults self.old.source.now ≤ S.faults self.new.source.now }
         ensures failed { IfErr result (λ fault. fault.why ≡ Read → Rose (S.faults self.old.source.now) (S.faults self.new.source.now)) }
         ensures at { IfErr result (λ fault. fault.line ≡ self.new.reading.line + 1) }
@@ -168,6 +170,7 @@ impl<'a, S: Source> ScriptReader<'a, S> {
         ensures failed { IfErr result (λ fault. fault.why ≡ Read → Rose (S.faults self.old.source.now) (S.faults self.new.source.now)) }
         ensures at { IfErr result (λ fault. (fault.why ≡ Read) ⊎ (fault.why ≡ Mem) → fault.line ≡ self.new.reading.line + 1) }
         ensures on { self.old.reading.line ≤ self.new.reading.line }
+        ensures touch { (self.new.source.now ≡ self.old.source.now) ⊎ RecordsLack self.old.reading.line n self.old.reading }
         ensures count { self.new.reading.line + (self.new.reading.room + length self.new.reading.ahead) ≤ self.old.reading.line + (self.old.reading.room + length self.old.reading.ahead) }
     {
         let at = self.reading.line;
@@ -213,6 +216,7 @@ impl<'a, S: Source> ScriptReader<'a, S> {
         ensures failed { IfErr result (λ fault. fault.why ≡ Read → Rose (S.faults self.old.source.now) (S.faults self.new.source.now)) }
         ensures at { IfErr result (λ fault. (fault.why ≡ Read) ⊎ (fault.why ≡ Mem) → fault.line ≡ self.new.reading.line + 1) }
         ensures moved { IfOk result (λ c. IsSome c → self.old.reading.line < self.new.reading.line) }
+        ensures touch { Taken self.old.source.now self.new.source.now self.old.reading }
         ensures count { self.new.reading.line + (self.new.reading.room + length self.new.reading.ahead) ≤ self.old.reading.line + (self.old.reading.room + length self.old.reading.ahead) }
         ensures behind { IfOk result (λ c. IsSome c → self.new.reading.last ≤ self.new.reading.line) }
     {
@@ -255,6 +259,7 @@ impl<'a, S: Source> ScriptReader<'a, S> {
         ensures failed { IfErr result (λ fault. (reading_of self.old).fault ≡ None → fault.why ≡ Read → Rose (S.faults (source_of self.old).now) (S.faults (source_of self.new).now)) }
         ensures at { IfErr result (λ fault. (reading_of self.old).fault ≡ None → (fault.why ≡ Read) ⊎ (fault.why ≡ Mem) → fault.line ≡ (reading_of self.new).line + 1) }
         ensures moved { IfOk result (λ c. IsSome c → (reading_of self.old).line < (reading_of self.new).line) }
+        ensures touch { Taken (source_of self.old).now (source_of self.new).now (reading_of self.old) }
         ensures count { (reading_of self.new).line + ((reading_of self.new).room + length (reading_of self.new).ahead) ≤ (reading_of self.old).line + ((reading_of self.old).room + length (reading_of self.old).ahead) }
         ensures behind { IfOk result (λ c. IsSome c → (reading_of self.new).last ≤ (reading_of self.new).line) }
     {

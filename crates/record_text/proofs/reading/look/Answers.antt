@@ -16,4 +16,11 @@ pub returns-then-room-eq0-clause-found : goal.returns-then-room-eq0-clause-found
 returns-then-room-eq0-clause-found c = let e = c.line_end-end.ensures in (c.if-room-eq0.true, cut_short c.args.ahead.now c.line_end-end.result e.within e.before e.found (omega (arith, c.if-end-len.false, c.len.ensures, ap (λ (l : List ℕ). length l) e.same)) (omega (arith, c.if-end-ge65536.false)))
 
 pub returns-clause-found : goal.returns-clause-found
-returns-clause-found c = let e = c.line_end-end.ensures in (c.if-ended.false, omega (arith, c.if-room-eq0.false), no_line c.args.ahead.now c.line_end-end.result e.within e.before e.found (omega (arith, c.if-end-len.false, c.len.ensures, ap (λ (l : List ℕ). length l) e.same)))
+returns-clause-found c =
+    let e = c.line_end-end.ensures in
+    let all = ap (λ (l : List ℕ). length l) e.same in (
+      c.if-ended.false,
+      omega (arith, c.if-room-eq0.false),
+      no_line c.args.ahead.now c.line_end-end.result e.within e.before e.found (omega (arith, c.if-end-len.false, c.len.ensures, all)),
+      cut_short c.args.ahead.now c.line_end-end.result e.within e.before e.found (omega (arith, c.if-end-len.false, c.len.ensures, all)) (omega (arith, c.if-end-ge65536.false)),
+    )

@@ -5,7 +5,7 @@ use Rattle.record_text.specs.Reading.{CommandIs}
 use Rattle.record_text.specs.Table.{asked, RefusesForm}
 use Rattle.record_text.specs.declared.command.Command.{Command}
 use Rattle.record_text.specs.declared.reading.Reading.{Reading}
-use Rattle.record_text.proofs.ReadLaws.{uses_then, uses_line, count_line, command_stops, refuses, command_is, records_stop}
+use Rattle.record_text.proofs.ReadLaws.{uses_then, uses_line, line_touch, command_touch, count_line, command_stops, refuses, command_is, records_stop}
 use Rattle.record_text.proofs.script_reader.ScriptReader.command.Goals as goal
 
 pub returns-in-Err-clause-reads : goal.returns-in-Err-clause-reads
@@ -88,3 +88,38 @@ returns-in-Err-read_records-clause-count g c =
     let is = rw c.in-Ok-Some.field-0-is at e.line in
     let t : Reading = record s { ahead = c.skip.new.self; line = s.line + 1 } in
     omega (arith, e.used.count, e.place.line, count_line s t (g.S.Source.left c.next_line.new.self.source.now) len skip is c.skip.ensures refl refl refl, c.read_records.ensures.count)
+
+pub returns-in-Ok-None-clause-touch : goal.returns-in-Ok-None-clause-touch
+returns-in-Ok-None-clause-touch g c = line_touch c.args.self.now.source.now c.next_line.new.self.source.now c.args.self.now.reading c.next_line.new.self.reading c.in-Ok-None.ensures.touch
+
+pub returns-in-Err-clause-touch : goal.returns-in-Err-clause-touch
+returns-in-Err-clause-touch g c = line_touch c.args.self.now.source.now c.next_line.new.self.source.now c.args.self.now.reading c.next_line.new.self.reading c.in-Err.ensures.touch
+
+pub returns-in-Refuses-clause-touch : goal.returns-in-Refuses-clause-touch
+returns-in-Refuses-clause-touch g c = line_touch c.args.self.now.source.now c.next_line.new.self.source.now c.args.self.now.reading c.next_line.new.self.reading c.in-Ok-Some.ensures.touch
+
+pub returns-in-Ok-clause-touch : goal.returns-in-Ok-clause-touch
+returns-in-Ok-clause-touch g c =
+    let r = c.args.self.now.reading in let s = c.next_line.new.self.reading in let u = c.read_records.new.self.reading in
+    let lr = g.S.Source.left c.args.self.now.source.now in let ls = g.S.Source.left c.next_line.new.self.source.now in let lu = g.S.Source.left c.read_records.new.self.source.now in
+    let e = c.in-Ok-Some.ensures in
+    let len = c.in-Ok-Some.line.0 in let skip = c.in-Ok-Some.line.1 in
+    let is = rw c.in-Ok-Some.field-0-is at e.line in
+    let t : Reading = record s { ahead = c.skip.new.self; line = s.line + 1 } in
+    let asks = sym (c.ask-asked.ensures.asked ∙ ap asked c.front.ensures) ∙ c.in-Asks.is in
+    let reads = c.in-Ok.ensures.reads in
+    command_touch r s t lr ls e.used e.place len skip is c.skip.ensures refl refl refl c.in-Asks.head c.in-Asks.n asks u lu reads.0 reads.1
+    c.args.self.now.source.now c.next_line.new.self.source.now c.read_records.new.self.source.now e.touch c.in-Ok.ensures.touch
+
+pub returns-in-Err-read_records-clause-touch : goal.returns-in-Err-read_records-clause-touch
+returns-in-Err-read_records-clause-touch g c =
+    let r = c.args.self.now.reading in let s = c.next_line.new.self.reading in let u = c.read_records.new.self.reading in
+    let lr = g.S.Source.left c.args.self.now.source.now in let ls = g.S.Source.left c.next_line.new.self.source.now in let lu = g.S.Source.left c.read_records.new.self.source.now in
+    let e = c.in-Ok-Some.ensures in
+    let len = c.in-Ok-Some.line.0 in let skip = c.in-Ok-Some.line.1 in
+    let is = rw c.in-Ok-Some.field-0-is at e.line in
+    let t : Reading = record s { ahead = c.skip.new.self; line = s.line + 1 } in
+    let asks = sym (c.ask-asked.ensures.asked ∙ ap asked c.front.ensures) ∙ c.in-Asks.is in
+    let reads = c.in-Err-read_records.ensures.reads in
+    command_touch r s t lr ls e.used e.place len skip is c.skip.ensures refl refl refl c.in-Asks.head c.in-Asks.n asks u lu reads.0 reads.1
+    c.args.self.now.source.now c.next_line.new.self.source.now c.read_records.new.self.source.now e.touch c.in-Err-read_records.ensures.touch
