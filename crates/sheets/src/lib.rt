@@ -8,6 +8,8 @@ mod mapping;
 mod merging;
 mod sheet;
 mod table;
+#[cfg(test)]
+mod tests;
 
 pub use mapping::map_sheets;
 pub use merging::merge_sheets;
