@@ -1,14 +1,11 @@
 -- The fields of a line whose spaces are known.
-use Rattle.std.proofs.Common.{◌≡◌, ◌≢◌, ℕ, zero, suc, ◌<◌, List, [], ◌∷◌, length, take, drop, get_or, refl, ap, ◌∙◌, arith}
+use Rattle.std.proofs.Common.{◌≡◌, ◌≢◌, ℕ, zero, suc, ◌<◌, List, [], ◌∷◌, length, take, drop, get_or, refl, ap, ◌∙◌, arith, Bool, true, false}
 use Rattle.std.proofs.lemmas.Bool.Decides.{nat_tests}
-use Rattle.std.proofs.Common.{Bool, true, false}
-use Rattle.std.specs.Prelude.{codes, bytes_eq, ◌==◌, if◌then◌else◌}
-use Rattle.definitions.specs.Numbers.{is_number, digits_value}
-use Rattle.record_text.specs.declared.script_fault.Why.TheVariants.{Unknown, BadNumber}
-use Rattle.record_text.specs.declared.table.Head.TheVariants.{OfBucket, OfRun}
-use Rattle.record_text.specs.declared.table.Asked.{Asked}
-use Rattle.record_text.specs.declared.table.Asked.TheVariants.{Asks, Refuses}
-use Rattle.record_text.specs.Table.{fields_of, field_with, asked, asked_by, row_of, one_number, no_field}
+use Rattle.std.proofs.lemmas.List.Elements.{All-cons, All-tail}
+use Rattle.std.specs.Prelude.{All, Err, ◌==◌, if◌then◌else◌}
+use Rattle.record_text.specs.declared.script_fault.Why.TheVariants.{Unknown}
+use Rattle.record_text.specs.Fields.{fields_of, field_with, no_field, IsField}
+use Rattle.record_text.specs.Table.{asked, asked_by, row_at, word_of}
 
 -- a byte that is no space
 fields_byte : (b : ℕ) (bs : List ℕ) → (b ≡ 32 → ⊥) → fields_of (b ∷ bs) ≡ field_with b (fields_of bs)
@@ -46,39 +43,40 @@ has_field : (line : List ℕ) → HasField (fields_of line)
 has_field [] = tt
 has_field (b ∷ bs) = pick (b == 32) ([] ∷ fields_of bs) (field_with b (fields_of bs)) tt (with_has b (fields_of bs))
 
-no_field_at : (fs : List (List ℕ)) (asks : Asked) → HasField fs → no_field fs asks ≡ Refuses Unknown
-no_field_at [] asks h = absurd h
-no_field_at (f ∷ fs) asks h = refl
+-- a field too many, or one too few
+pub one_more : (field rest : List ℕ) → length (field ∷ fields_of rest) ≢ 1
+one_more field rest is = more (fields_of rest) (has_field rest) is
+  where
+    more : (fs : List (List ℕ)) → HasField fs → length (field ∷ fs) ≢ 1
+    more [] h is = absurd h
+    more (f ∷ fs) h is = absurd (omega (arith, is))
 
-one_number_at : (f : List ℕ) (fs : List (List ℕ)) (asks : ℕ → Asked) → HasField fs → one_number (f ∷ fs) asks ≡ Refuses Unknown
-one_number_at f [] asks h = absurd h
-one_number_at f (g ∷ fs) asks h = refl
+pub no_field-some : (rest : List ℕ) → no_field (fields_of rest) ≡ Err Unknown
+no_field-some rest = at (fields_of rest) (has_field rest)
+  where
+    at : (fs : List (List ℕ)) → HasField fs → no_field fs ≡ Err Unknown
+    at [] h = absurd h
+    at (f ∷ fs) h = refl
 
--- a field too many
-pub no_field-some : (rest : List ℕ) (asks : Asked) → no_field (fields_of rest) asks ≡ Refuses Unknown
-no_field-some rest asks = no_field_at (fields_of rest) asks (has_field rest)
+-- the fields of a line without LF
+no_bytes : (c : ℕ) → All (λ b. b ≢ c) []
+no_bytes c k d lt = absurd (omega (arith, lt))
 
-pub one_number-more : (rest field more : List ℕ) (asks : ℕ → Asked) → fields_of rest ≡ field ∷ fields_of more → one_number (fields_of rest) asks ≡ Refuses Unknown
-one_number-more rest field more asks is = ap (λ (l : List (List ℕ)). one_number l asks) is ∙ one_number_at field (fields_of more) asks (has_field more)
+with_plain : (b : ℕ) (fs : List (List ℕ)) → b ≢ 32 → b ≢ 10 → All IsField fs → All IsField (field_with b fs)
+with_plain b [] space lf all = All-cons IsField (b ∷ []) [] (All-cons (λ x. x ≢ 32) b [] space (no_bytes 32), All-cons (λ x. x ≢ 10) b [] lf (no_bytes 10)) (λ k d lt. absurd (omega (arith, lt)))
+with_plain b (f ∷ fs) space lf all =
+    let is : IsField f = all 0 [] (omega arith) in
+    All-cons IsField (b ∷ f) fs (All-cons (λ x. x ≢ 32) b f space is.0, All-cons (λ x. x ≢ 10) b f lf is.1) (All-tail IsField f fs all)
 
--- one field
-pub one_number-is : (rest field : List ℕ) (asks : ℕ → Asked) → fields_of rest ≡ field ∷ [] → is_number field ≡ true → one_number (fields_of rest) asks ≡ asks (digits_value field)
-one_number-is rest field asks is t = ap (λ (l : List (List ℕ)). one_number l asks) is ∙ ap (λ (b : Bool). (if b then asks (digits_value field) else Refuses BadNumber)) t
+pick_plain : (c : Bool) (b : ℕ) (fs : List (List ℕ)) → (b == 32) ≡ c → b ≢ 10 → All IsField fs → All IsField (if c then [] ∷ fs else field_with b fs)
+pick_plain true b fs is lf rest = All-cons IsField [] fs (no_bytes 32, no_bytes 10) rest
+pick_plain false b fs is lf rest = with_plain b fs (λ e. let n : b ≡ 32 → ⊥ = grind (arith, nat_tests) in n e) lf rest
 
-pub one_number-bad : (rest field : List ℕ) (asks : ℕ → Asked) → fields_of rest ≡ field ∷ [] → is_number field ≡ false → one_number (fields_of rest) asks ≡ Refuses BadNumber
-one_number-bad rest field asks is t = ap (λ (l : List (List ℕ)). one_number l asks) is ∙ ap (λ (b : Bool). (if b then asks (digits_value field) else Refuses BadNumber)) t
+pub fields_plain : (line : List ℕ) → All (λ b. b ≢ 10) line → All IsField (fields_of line)
+fields_plain [] plain = All-cons IsField [] [] (no_bytes 32, no_bytes 10) (λ k d lt. absurd (omega (arith, lt)))
+fields_plain (b ∷ bs) plain = pick_plain (b == 32) b (fields_of bs) refl (plain 0 0 (omega arith)) (fields_plain bs (All-tail (λ x. x ≢ 10) b bs plain))
 
--- the rows of the table
-module _ (line word : List ℕ) (fields : List (List ℕ)) (is : fields_of line ≡ word ∷ fields) where
-  pub asked-row : asked line ≡ row_of word fields
-  unfolding asked
-  asked-row = ap (λ (l : List (List ℕ)). asked_by l) is
-
-  pub asked-bucket : bytes_eq word (codes "bucket") ≡ true → asked line ≡ one_number fields (λ n. Asks OfBucket n)
-  asked-bucket t = asked-row ∙ ap (λ (b : Bool). (if b then one_number fields (λ n. Asks OfBucket n) else if bytes_eq word (codes "run") then no_field fields (Asks OfRun 0) else Refuses Unknown)) t
-
-  pub asked-run : bytes_eq word (codes "bucket") ≡ false → bytes_eq word (codes "run") ≡ true → asked line ≡ no_field fields (Asks OfRun 0)
-  asked-run f t = asked-row ∙ (λ i. (if f i then one_number fields (λ n. Asks OfBucket n) else if t i then no_field fields (Asks OfRun 0) else Refuses Unknown))
-
-  pub asked-other : bytes_eq word (codes "bucket") ≡ false → bytes_eq word (codes "run") ≡ false → asked line ≡ Refuses Unknown
-  asked-other f g = asked-row ∙ (λ i. (if f i then one_number fields (λ n. Asks OfBucket n) else if g i then no_field fields (Asks OfRun 0) else Refuses Unknown))
+-- a line whose first field is known
+pub asked-is : (line word : List ℕ) (fields : List (List ℕ)) → fields_of line ≡ word ∷ fields → asked line ≡ row_at (word_of word) fields
+unfolding asked
+asked-is line word fields is = ap (λ (l : List (List ℕ)). asked_by l) is

@@ -5,7 +5,8 @@ use Rattle.std.specs.declared.option.Option.TheVariants.{Some}
 use Rattle.std.proofs.lemmas.Bool.Decides.{nat_tests}
 use Rattle.definitions.specs.Records.{text_of}
 use Rattle.definitions.proofs.ToldBytes.{told_same, told_then}
-use Rattle.record_text.specs.Table.{asked, command_of, IsForm}
+use Rattle.record_text.specs.Fields.{IsForm}
+use Rattle.record_text.specs.Table.{asked, command_of}
 use Rattle.record_text.specs.Script.{ACommand, ARecord, Script, from_line, step, after_records, fits_command}
 use Rattle.record_text.specs.Reading.{IsLine, Goes, Comes, Sound, Used, Uses, Stops, RecordsAre, CommandIs, Lacks, LineTaken, RecordsLack, Taken, NextLineIs, SamePlace}
 use Rattle.record_text.specs.declared.reading.Reading.{Reading}

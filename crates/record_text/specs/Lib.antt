@@ -1,4 +1,5 @@
 pub mod Lines
+pub mod Fields
 pub mod Table
 pub mod Script
 pub mod Reading

@@ -7,6 +7,7 @@
 mod ahead;
 mod bundle;
 mod command;
+mod fields;
 mod kind;
 mod name;
 mod numbers;
@@ -15,10 +16,13 @@ mod reading;
 mod records;
 mod script_fault;
 mod script_reader;
+#[cfg(test)]
+mod script_tests;
 mod shift;
 mod table;
 #[cfg(test)]
 mod tests;
+mod words;
 
 pub use bundle::Bundle;
 pub use command::Command;

@@ -225,7 +225,13 @@ impl<'a, S: Source> ScriptReader<'a, S> {
             Ok(None) => return Ok(None),
             Err(fault) => return Err(fault),
         };
-        let asked = ask(self.reading.ahead.front(len));
+        let asked = match ask(alloc, self.reading.ahead.front(len)) {
+            Ok(asked) => asked,
+            Err(_) => return Err(ScriptFault {
+                line: self.reading.line + 1,
+                why: Why::Mem,
+            }),
+        };
         self.reading.ahead.skip(skip);
         self.reading.line += 1;
         let line = self.reading.line;

@@ -1,15 +1,23 @@
 // The table of commands.
-ghost use Rattle.std.specs.Prelude.{◌≡◌};
-ghost use Rattle.record_text.specs.declared.table.Asked.TheVariants.{Asks};
-ghost use Rattle.record_text.specs.Table.{RefusesForm, SplitsField, asked, command_of, fields_behind, no_field, one_number};
+ghost use Rattle.std.specs.Prelude.{◌≡◌, ◌≢◌, All, IfOk};
+ghost use Rattle.record_text.specs.Fields.{IsField, fields_behind};
+ghost use Rattle.record_text.specs.Table.{RefusesForm, asked, command_of, row_of};
 
-use crate::{Command, Records, Why, parse_number};
-use memchr::memchr;
+use crate::fields::{no_field, one_name, one_number, split_field, three_numbers, two_numbers};
+use crate::words::{Word, word_of};
+use crate::{Command, Name, Records, Why};
+use std::alloc::{AllocError, Global};
 
 /// A command without its record lines.
-#[derive(Clone, Copy, Debug, PartialEq, Eq)]
+#[derive(Drop)]
 pub enum Head {
     OfBucket,
+    OfDrop(u32),
+    OfLate(u32),
+    OfFile(Name),
+    OfRemove(Name),
+    OfEdit(u32, u32),
+    OfLoad,
     OfRun,
 }
 
@@ -20,68 +28,83 @@ impl Head {
     {
         match self {
             Head::OfBucket => Command::Bucket(records),
+            Head::OfDrop(n) => Command::Drop(n),
+            Head::OfLate(place) => Command::Late {
+                place,
+                more: records,
+            },
+            Head::OfFile(name) => Command::File { name },
+            Head::OfRemove(name) => Command::Remove { name },
+            Head::OfEdit(at, del) => Command::Edit {
+                at,
+                del,
+                ins: records,
+            },
+            Head::OfLoad => Command::Load(records),
             Head::OfRun => Command::Run,
         }
     }
 }
 
 /// What a command line asks for: a command with so many record lines, or a fault.
-#[derive(Clone, Copy, Debug, PartialEq, Eq)]
+#[derive(Drop)]
 pub enum Asked {
     Asks(Head, u32),
     Refuses(Why),
 }
 
-/// The first field of a line, and what stands behind its space where there is one.
-fn split_field(line: &[u8]) -> (&[u8], Option<&[u8]>)
-    ensures { SplitsField line.now result }
+/// What a row asks for. Only a name takes memory.
+fn ask_row(alloc: Global, word: Word, rest: Option<&[u8]>) -> Result<Asked, AllocError>
+    requires { All IsField (fields_behind rest) }
+    ensures row { IfOk result (λ asked. asked ≡ row_of word (fields_behind rest.entry)) }
+    ensures form { IfOk result RefusesForm }
 {
-    match memchr(b' ', line) {
-        Some(i) => (&line[..i], Some(&line[i + 1..])),
-        None => (line, None),
-    }
-}
-
-/// A row without fields: the command has no record lines.
-fn ask_no_field(rest: Option<&[u8]>, head: Head) -> Asked
-    ensures row { result ≡ no_field (fields_behind rest.entry) (Asks head 0) }
-    ensures form { RefusesForm result }
-{
-    match rest {
-        Some(_) => Asked::Refuses(Why::Unknown),
-        None => Asked::Asks(head, 0),
-    }
-}
-
-/// A row with one field, a number: the command has so many record lines.
-fn ask_one_number(rest: Option<&[u8]>, head: Head) -> Asked
-    ensures row { result ≡ one_number (fields_behind rest.entry) (λ n. Asks head n) }
-    ensures form { RefusesForm result }
-{
-    let Some(rest) = rest else {
-        return Asked::Refuses(Why::Unknown);
-    };
-    let (field, more) = split_field(rest);
-    match more {
-        Some(_) => Asked::Refuses(Why::Unknown),
-        None => match parse_number(field) {
-            Some(n) => Asked::Asks(head, n),
-            None => Asked::Refuses(Why::BadNumber),
+    let asked = match word {
+        Word::Bucket => match one_number(rest) {
+            Ok(n) => Asked::Asks(Head::OfBucket, n),
+            Err(why) => Asked::Refuses(why),
         },
-    }
+        Word::Drop => match one_number(rest) {
+            Ok(n) => Asked::Asks(Head::OfDrop(n), 0),
+            Err(why) => Asked::Refuses(why),
+        },
+        Word::Late => match two_numbers(rest) {
+            Ok((place, n)) => Asked::Asks(Head::OfLate(place), n),
+            Err(why) => Asked::Refuses(why),
+        },
+        Word::File => match one_name(alloc, rest)? {
+            Ok(name) => Asked::Asks(Head::OfFile(name), 0),
+            Err(why) => Asked::Refuses(why),
+        },
+        Word::Remove => match one_name(alloc, rest)? {
+            Ok(name) => Asked::Asks(Head::OfRemove(name), 0),
+            Err(why) => Asked::Refuses(why),
+        },
+        Word::Edit => match three_numbers(rest) {
+            Ok((at, del, n)) => Asked::Asks(Head::OfEdit(at, del), n),
+            Err(why) => Asked::Refuses(why),
+        },
+        Word::Load => match one_number(rest) {
+            Ok(n) => Asked::Asks(Head::OfLoad, n),
+            Err(why) => Asked::Refuses(why),
+        },
+        Word::Run => match no_field(rest) {
+            Ok(()) => Asked::Asks(Head::OfRun, 0),
+            Err(why) => Asked::Refuses(why),
+        },
+    };
+    Ok(asked)
 }
 
-/// What a command line asks for.
-pub fn ask(line: &[u8]) -> Asked
-    ensures asked { result ≡ asked line.now }
-    ensures form { RefusesForm result }
+/// What a command line asks for. Only a name takes memory.
+pub fn ask(alloc: Global, line: &[u8]) -> Result<Asked, AllocError>
+    requires { All (λ b. b ≢ 10) line.now }
+    ensures asked { IfOk result (λ a. a ≡ asked line.now) }
+    ensures form { IfOk result RefusesForm }
 {
     let (word, rest) = split_field(line);
-    if word == b"bucket".as_slice() {
-        return ask_one_number(rest, Head::OfBucket);
+    match word_of(word) {
+        Some(word) => ask_row(alloc, word, rest),
+        None => Ok(Asked::Refuses(Why::Unknown)),
     }
-    if word == b"run".as_slice() {
-        return ask_no_field(rest, Head::OfRun);
-    }
-    Asked::Refuses(Why::Unknown)
 }

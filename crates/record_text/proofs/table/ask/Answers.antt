@@ -1,25 +1,25 @@
-use Rattle.std.proofs.Common.{◌≡◌, List, ℕ, sym, ap, ◌∙◌, true, false}
-use Rattle.std.specs.Prelude.{bytes_eq, codes}
-use Rattle.record_text.specs.Table.{fields_behind}
-use Rattle.record_text.proofs.FieldLaws.{asked-bucket, asked-run, asked-other}
+use Rattle.std.proofs.Common.{◌≡◌, All, List, ℕ, sym, ap, ◌∙◌, subst, IfOk}
+use Rattle.std.specs.Prelude.{Option}
+use Rattle.std.proofs.lemmas.List.Elements.{All-tail}
+use Rattle.record_text.specs.Fields.{IsField, fields_behind}
+use Rattle.record_text.specs.Table.{asked, row_at, row_of}
+use Rattle.record_text.specs.declared.table.Asked.{Asked}
+use Rattle.record_text.specs.declared.words.Word.{Word}
+use Rattle.record_text.proofs.FieldLaws.{asked-is, fields_plain}
 use Rattle.record_text.proofs.table.ask.Goals as goal
 
-pub returns-then-eq-clause-asked : goal.returns-then-eq-clause-asked
-returns-then-eq-clause-asked c =
-    let word = c.split_field.result.0.now in let fields = fields_behind c.split_field.result.1 in
-    let yes : bytes_eq word (codes "bucket") ≡ true = ap (λ (l : List ℕ). bytes_eq word l) (sym c.as_slice.ensures) ∙ sym c.eq.ensures ∙ c.if-eq.true in
-    c.ask_one_number.ensures.row ∙ sym (asked-bucket c.args.line.now word fields c.split_field.ensures yes)
+pub ask_row-requires : goal.ask_row-requires
+ask_row-requires c =
+    let line = c.args.line.now in
+    All-tail IsField c.split_field.result.0.now (fields_behind c.split_field.result.1) (subst (λ (l : List (List ℕ)). All IsField l) c.split_field.ensures (fields_plain line c.requires))
 
-pub returns-then-eq-2-clause-asked : goal.returns-then-eq-2-clause-asked
-returns-then-eq-2-clause-asked c =
-    let word = c.split_field.result.0.now in let fields = fields_behind c.split_field.result.1 in
-    let other : bytes_eq word (codes "bucket") ≡ false = ap (λ (l : List ℕ). bytes_eq word l) (sym c.as_slice.ensures) ∙ sym c.eq.ensures ∙ c.if-eq.false in
-    let yes : bytes_eq word (codes "run") ≡ true = ap (λ (l : List ℕ). bytes_eq word l) (sym c.as_slice-2.ensures) ∙ sym c.eq-2.ensures ∙ c.if-eq-2.true in
-    c.ask_no_field.ensures.row ∙ sym (asked-run c.args.line.now word fields c.split_field.ensures other yes)
+pub returns-in-Some-clause-asked : goal.returns-in-Some-clause-asked
+returns-in-Some-clause-asked c =
+    let line = c.args.line.now in let word = c.split_field.result.0.now in let fields = fields_behind c.split_field.result.1 in
+    let is : asked line ≡ row_of c.in-Some.word fields = asked-is line word fields c.split_field.ensures ∙ ap (λ (o : Option Word). row_at o fields) (sym c.word_of.ensures ∙ c.in-Some.is) in
+    subst (λ (x : Asked). IfOk c.ask_row.result (λ a. a ≡ x)) (sym is) c.ask_row.ensures.row
 
-pub returns-clause-asked : goal.returns-clause-asked
-returns-clause-asked c =
-    let word = c.split_field.result.0.now in let fields = fields_behind c.split_field.result.1 in
-    let other : bytes_eq word (codes "bucket") ≡ false = ap (λ (l : List ℕ). bytes_eq word l) (sym c.as_slice.ensures) ∙ sym c.eq.ensures ∙ c.if-eq.false in
-    let none : bytes_eq word (codes "run") ≡ false = ap (λ (l : List ℕ). bytes_eq word l) (sym c.as_slice-2.ensures) ∙ sym c.eq-2.ensures ∙ c.if-eq-2.false in
-    sym (asked-other c.args.line.now word fields c.split_field.ensures other none)
+pub returns-in-None-clause-asked : goal.returns-in-None-clause-asked
+returns-in-None-clause-asked c =
+    let line = c.args.line.now in let word = c.split_field.result.0.now in let fields = fields_behind c.split_field.result.1 in
+    sym (asked-is line word fields c.split_field.ensures ∙ ap (λ (o : Option Word). row_at o fields) (sym c.word_of.ensures ∙ c.in-None.is))

@@ -22,28 +22,28 @@ returns-in-Refuses-clause-reads g c =
     let len = c.in-Ok-Some.line.0 in let skip = c.in-Ok-Some.line.1 in
     let is = rw c.in-Ok-Some.field-0-is at e.line in
     let t : Reading = record s { ahead = c.skip.new.self; line = s.line + 1 } in
-    let asks = sym (c.ask-asked.ensures.asked ∙ ap asked c.front.ensures) ∙ c.in-Refuses.is in (
+    let asks = sym (c.in-Ok.ensures.asked ∙ ap asked c.front.ensures) ∙ c.in-Refuses.is in (
       take skip s.ahead,
       uses_then r s t lr ls ls [] (take skip s.ahead) e.used (uses_line s t ls len skip is c.skip.ensures refl refl),
-      refuses r s t lr ls e.used e.place len skip is c.skip.ensures refl refl refl s.last c.in-Refuses.why asks (subst RefusesForm c.in-Refuses.is c.ask-asked.ensures.form),
+      refuses r s t lr ls e.used e.place len skip is c.skip.ensures refl refl refl s.last c.in-Refuses.why asks (subst RefusesForm c.in-Refuses.is c.in-Ok.ensures.form),
     )
 
-pub returns-in-Ok-clause-reads : goal.returns-in-Ok-clause-reads
-returns-in-Ok-clause-reads g c =
+pub returns-in-Ok-read_records-clause-reads : goal.returns-in-Ok-read_records-clause-reads
+returns-in-Ok-read_records-clause-reads g c =
     let r = c.args.self.now.reading in let s = c.next_line.new.self.reading in let u = c.read_records.new.self.reading in
     let lr = g.S.Source.left c.args.self.now.source.now in let ls = g.S.Source.left c.next_line.new.self.source.now in let lu = g.S.Source.left c.read_records.new.self.source.now in
     let e = c.in-Ok-Some.ensures in
     let len = c.in-Ok-Some.line.0 in let skip = c.in-Ok-Some.line.1 in
     let is = rw c.in-Ok-Some.field-0-is at e.line in
     let t : Reading = record s { ahead = c.skip.new.self; line = s.line + 1 } in
-    let asks = sym (c.ask-asked.ensures.asked ∙ ap asked c.front.ensures) ∙ c.in-Asks.is in
-    let reads = c.in-Ok.ensures.reads in let used = reads.0 in
+    let asks = sym (c.in-Ok.ensures.asked ∙ ap asked c.front.ensures) ∙ c.in-Asks.is in
+    let reads = c.in-Ok-read_records.ensures.reads in let used = reads.0 in
     let first = uses_then r s t lr ls ls [] (take skip s.ahead) e.used (uses_line s t ls len skip is c.skip.ensures refl refl) in
     let all = uses_then r t u lr ls lu (take skip s.ahead) used first reads.1 in (
       take skip s.ahead ++ used,
       record { bytes = all.bytes; count = all.count },
       subst (λ (x : Command). CommandIs r.line u.line t.line u.ended u.room (take skip s.ahead ++ used) u.ahead (Ok (Some x))) (sym c.command.ensures)
-          (command_is r s t lr ls e.used e.place len skip is c.skip.ensures refl refl refl c.in-Asks.head c.in-Asks.n asks u lu used reads.1 c.in-Ok.got reads.2),
+          (command_is r s t lr ls e.used e.place len skip is c.skip.ensures refl refl refl c.in-Asks.head c.in-Asks.n asks u lu used reads.1 c.in-Ok-read_records.got reads.2),
     )
 
 pub returns-in-Err-read_records-clause-reads : goal.returns-in-Err-read_records-clause-reads
@@ -54,7 +54,7 @@ returns-in-Err-read_records-clause-reads g c =
     let len = c.in-Ok-Some.line.0 in let skip = c.in-Ok-Some.line.1 in
     let is = rw c.in-Ok-Some.field-0-is at e.line in
     let t : Reading = record s { ahead = c.skip.new.self; line = s.line + 1 } in
-    let asks = sym (c.ask-asked.ensures.asked ∙ ap asked c.front.ensures) ∙ c.in-Asks.is in
+    let asks = sym (c.in-Ok.ensures.asked ∙ ap asked c.front.ensures) ∙ c.in-Asks.is in
     let reads = c.in-Err-read_records.ensures.reads in let used = reads.0 in
     let first = uses_then r s t lr ls ls [] (take skip s.ahead) e.used (uses_line s t ls len skip is c.skip.ensures refl refl) in (
       take skip s.ahead ++ used,
@@ -71,8 +71,8 @@ returns-in-Refuses-clause-count g c =
     let t : Reading = record s { ahead = c.skip.new.self; line = s.line + 1 } in
     omega (arith, e.used.count, e.place.line, count_line s t (g.S.Source.left c.next_line.new.self.source.now) len skip is c.skip.ensures refl refl refl)
 
-pub returns-in-Ok-clause-count : goal.returns-in-Ok-clause-count
-returns-in-Ok-clause-count g c =
+pub returns-in-Ok-read_records-clause-count : goal.returns-in-Ok-read_records-clause-count
+returns-in-Ok-read_records-clause-count g c =
     let s = c.next_line.new.self.reading in
     let e = c.in-Ok-Some.ensures in
     let len = c.in-Ok-Some.line.0 in let skip = c.in-Ok-Some.line.1 in
@@ -98,18 +98,18 @@ returns-in-Err-clause-touch g c = line_touch c.args.self.now.source.now c.next_l
 pub returns-in-Refuses-clause-touch : goal.returns-in-Refuses-clause-touch
 returns-in-Refuses-clause-touch g c = line_touch c.args.self.now.source.now c.next_line.new.self.source.now c.args.self.now.reading c.next_line.new.self.reading c.in-Ok-Some.ensures.touch
 
-pub returns-in-Ok-clause-touch : goal.returns-in-Ok-clause-touch
-returns-in-Ok-clause-touch g c =
+pub returns-in-Ok-read_records-clause-touch : goal.returns-in-Ok-read_records-clause-touch
+returns-in-Ok-read_records-clause-touch g c =
     let r = c.args.self.now.reading in let s = c.next_line.new.self.reading in let u = c.read_records.new.self.reading in
     let lr = g.S.Source.left c.args.self.now.source.now in let ls = g.S.Source.left c.next_line.new.self.source.now in let lu = g.S.Source.left c.read_records.new.self.source.now in
     let e = c.in-Ok-Some.ensures in
     let len = c.in-Ok-Some.line.0 in let skip = c.in-Ok-Some.line.1 in
     let is = rw c.in-Ok-Some.field-0-is at e.line in
     let t : Reading = record s { ahead = c.skip.new.self; line = s.line + 1 } in
-    let asks = sym (c.ask-asked.ensures.asked ∙ ap asked c.front.ensures) ∙ c.in-Asks.is in
-    let reads = c.in-Ok.ensures.reads in
+    let asks = sym (c.in-Ok.ensures.asked ∙ ap asked c.front.ensures) ∙ c.in-Asks.is in
+    let reads = c.in-Ok-read_records.ensures.reads in
     command_touch r s t lr ls e.used e.place len skip is c.skip.ensures refl refl refl c.in-Asks.head c.in-Asks.n asks u lu reads.0 reads.1
-    c.args.self.now.source.now c.next_line.new.self.source.now c.read_records.new.self.source.now e.touch c.in-Ok.ensures.touch
+    c.args.self.now.source.now c.next_line.new.self.source.now c.read_records.new.self.source.now e.touch c.in-Ok-read_records.ensures.touch
 
 pub returns-in-Err-read_records-clause-touch : goal.returns-in-Err-read_records-clause-touch
 returns-in-Err-read_records-clause-touch g c =
@@ -119,7 +119,10 @@ returns-in-Err-read_records-clause-touch g c =
     let len = c.in-Ok-Some.line.0 in let skip = c.in-Ok-Some.line.1 in
     let is = rw c.in-Ok-Some.field-0-is at e.line in
     let t : Reading = record s { ahead = c.skip.new.self; line = s.line + 1 } in
-    let asks = sym (c.ask-asked.ensures.asked ∙ ap asked c.front.ensures) ∙ c.in-Asks.is in
+    let asks = sym (c.in-Ok.ensures.asked ∙ ap asked c.front.ensures) ∙ c.in-Asks.is in
     let reads = c.in-Err-read_records.ensures.reads in
     command_touch r s t lr ls e.used e.place len skip is c.skip.ensures refl refl refl c.in-Asks.head c.in-Asks.n asks u lu reads.0 reads.1
     c.args.self.now.source.now c.next_line.new.self.source.now c.read_records.new.self.source.now e.touch c.in-Err-read_records.ensures.touch
+
+pub returns-in-Err-ask-clause-touch : goal.returns-in-Err-ask-clause-touch
+returns-in-Err-ask-clause-touch g c = line_touch c.args.self.now.source.now c.next_line.new.self.source.now c.args.self.now.reading c.next_line.new.self.reading c.in-Ok-Some.ensures.touch

@@ -1,8 +1,8 @@
 use Rattle.std.proofs.Common.{◌≡◌, ◌+◌, ℕ, List, ◌∷◌, take, drop, get_or, sym, ap, ◌∙◌, arith, suc}
-use Rattle.record_text.specs.Table.{fields_of}
+use Rattle.record_text.specs.Fields.{fields_of}
 use Rattle.record_text.proofs.AheadLaws.{same_true, true_same, rest_is}
 use Rattle.record_text.proofs.FieldLaws.{fields_of-space, fields_of-none}
-use Rattle.record_text.proofs.table.split_field.Goals as goal
+use Rattle.record_text.proofs.fields.split_field.Goals as goal
 
 pub returns-in-Some : goal.returns-in-Some
 returns-in-Some c =
