@@ -3,6 +3,8 @@
 #![tactic(auto)]
 
 mod basic_jobs;
+#[cfg(test)]
+mod plain_tests;
 mod program;
 #[cfg(test)]
 mod tests;

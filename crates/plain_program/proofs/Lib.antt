@@ -1,0 +1,3 @@
+mod KeyLaws
+mod WindowLaws
+mod ScriptSteps

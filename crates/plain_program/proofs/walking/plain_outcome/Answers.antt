@@ -1,0 +1,19 @@
+use Rattle.std.proofs.Common.{◌≡◌, ap, ◌∙◌}
+use Rattle.record_text.specs.Script.{Done, Ending, commands}
+use Rattle.slider_session.specs.Output.{meaning}
+use Rattle.slider_session.specs.declared.serving.TheConstants.{MOST_SCRIPT}
+use Rattle.plain_program.specs.Plain.{ending_of_rest}
+use Rattle.plain_program.proofs.ScriptSteps.{first_fault, whole_walk}
+use Rattle.plain_program.proofs.walking.plain_outcome.Goals as goal
+
+pub returns : goal.returns
+returns g c =
+    let s = g.J.Job.setting c.args.job.now in
+    let j = meaning (g.J.Job.accepts s) (g.J.Job.emits s) (g.J.Job.joined s) (g.J.Job.text s) in
+    let fault = c.in_ok-script.script.fault in
+    let rest = ending_of_rest fault Done in
+    let ending = ap (λ f. ending_of_rest f Done) c.or.ensures ∙ first_fault c.in_ok-refused.refused fault Done in
+    ap (λ (e : Ending). (c.walk_commands.new.walk.written.items, e)) ending
+    ∙ c.in_ok-refused.ensures rest
+    ∙ whole_walk j c.new-walk.result c.deref.result.now rest (commands MOST_SCRIPT c.args.script.items) c.new-walk.ensures.run c.new-walk.ensures.leaves c.new-walk.ensures.written
+    ((λ i. (c.deref.ensures.value i, rest)) ∙ c.in_ok-script.ensures.commands)

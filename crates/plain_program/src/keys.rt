@@ -1,0 +1,44 @@
+// The distinct keys of pairs.
+ghost use Rattle.std.specs.Prelude.{◌≡◌, IfOk, OnOk};
+ghost use Rattle.definitions.specs.Tables.{keys_of};
+ghost use Rattle.plain_program.specs.Plain.{key_among};
+
+use job_laws::Key;
+use std::alloc::{AllocError, Global};
+use std::cmp::Ordering;
+
+/// The distinct keys of pairs in byte order.
+pub(crate) fn plain_keys<V>(alloc: Global, pairs: &[(Key, V)]) -> Result<Vec<Key>, AllocError>
+    ensures { IfOk result (λ keys. keys.items ≡ keys_of pairs.now) }
+{
+    let mut keys = Vec::new(alloc);
+    let mut rest = pairs;
+    'pairs: while let [front @ .., last] = rest {
+        match add_key(&mut keys, &last.0) {
+            Ok(()) => (),
+            Err(e) => return Err(e),
+        }
+        rest = front;
+    }
+    Ok(keys)
+}
+
+/// Puts a key to its place among others in byte order, unless it is there.
+fn add_key(keys: &mut Vec<Key>, key: &Key) -> Result<(), AllocError>
+    ensures { OnOk result (keys.new.items ≡ key_among key.now keys.old.items) }
+{
+    'keys: for i in 0..keys.len() {
+        match key.compare(&keys[i]) {
+            Ordering::Less => {
+                let key = key.share()?;
+                keys.insert(i, key)?;
+                return Ok(());
+            }
+            Ordering::Equal => return Ok(()),
+            Ordering::Greater => (),
+        }
+    }
+    let key = key.share()?;
+    keys.push(key)?;
+    Ok(())
+}

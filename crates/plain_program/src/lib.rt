@@ -1,0 +1,15 @@
+//! The definitions as a program: what is written for a script, computed in the plainest way. Each run maps all records
+//! of the window, and reduces each key by a walk over all pairs. It is slow, takes memory for the whole script, and is
+//! there so that the real program has something to be compared with. Start at [`plain_outcome`].
+#![tactic(auto)]
+
+mod answering;
+mod keys;
+mod pairs;
+mod reading;
+mod reducing;
+mod walk;
+mod walking;
+
+pub use reading::{PlainScript, plain_commands};
+pub use walking::{PlainOutcome, plain_outcome};
