@@ -1,6 +1,7 @@
 -- The laws of `index`.
 use Rattle.std.specs.Prelude.{◌≡◌, ◌≤◌, ◌<◌, ℕ, suc, Bool, true, false, ◌&&◌, nat_le, nat_lt, IsTrue, List, [], ◌∷◌, length, Option, Some, None}
 use Rattle.std.proofs.Common.{refl, sym, ap, subst, ◌∙◌, arith}
+use Rattle.std.proofs.lemmas.Bool.{and_parts}
 use Rattle.definitions.specs.Numbers.{is_number, digits_value}
 use Rattle.definitions.specs.Tables.{HasGoodValues, IsGoodJoin}
 use Rattle.job_laws.specs.Forms.{split_at_tab, fields_pass, is_index_record}
@@ -178,12 +179,9 @@ good_text (Some p) h =
     let fits : digits_value p.0 ≤ 4294967295 = number_fits p.0 h in
     good_words index_good (in_document (digits_value p.0)) (λ word. (omega arith, fits, tt)) p.1
 
-right_of : (a b : Bool) → IsTrue (a && b) → IsTrue b
-right_of a b h = grind arith
-
 -- emitted lists are good
 pub index_emits_good : (r : List ℕ) → IsTrue (index_accepts r) → HasGoodValues index_good (index_emits r)
-index_emits_good r h = good_text (split_at_tab r) (right_of (nat_le (length r) 65535) (is_index_record r) h)
+index_emits_good r h = good_text (split_at_tab r) (and_parts (nat_le (length r) 65535) (is_index_record r) h).1
 
 -- joining keeps good lists, and is associative on them
 pub index_join_laws : IsGoodJoin index_good index_joined
