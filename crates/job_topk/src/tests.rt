@@ -102,8 +102,7 @@ fn a_record_has_a_group_a_score_and_an_item(rt: HostRuntime) -> Result<(), Fail>
         let text = pairs(rt.alloc(), &job, records.as_slice(), &mut m)?;
         assert_eq!(rt;
             text.as_slice(),
-            b"g\x00\x00\x01\x02\x00\x00\x00\x03a\tb;h\x00\x00\x00\x00\x00\x00\x00\x00;h\xff\xff\xff\xff\x00\x00\x00\x01i;"
-                .as_slice()
+            b"g\x00\x00\x01\x02\x00\x00\x00\x03a\tb;h\x00\x00\x00\x00\x00\x00\x00\x00;h\xff\xff\xff\xff\x00\x00\x00\x01i;".as_slice()
         );
         assert_eq!(rt; job.setting(), 2);
         assert_eq!(rt; m.counts().maps, 3);
