@@ -1,5 +1,5 @@
 // What stands with a group.
-ghost use Rattle.std.specs.Prelude.{◌≡◌, ◌++◌, [], ◌∷◌, ◌↔◌, IsTrue, IfOk, OnOk};
+ghost use Rattle.std.specs.Prelude.{◌≡◌, ◌++◌, [], ◌∷◌, IfOk, OnOk, OnErr};
 ghost use Rattle.std.specs.Ordering.{is_gt};
 ghost use Rattle.job_topk.specs.TopK.{member_cmp};
 
@@ -48,7 +48,8 @@ impl Members {
 
     /// One more member at the end, whose item is shared.
     pub fn push(&mut self, member: &(u32, Bytes)) -> Result<(), AllocError>
-        ensures { OnOk result (self.new ≡ self.old ++ member.now ∷ []) }
+        ensures ok { OnOk result (self.new ≡ self.old ++ member.now ∷ []) }
+        ensures err { OnErr result (self.new ≡ self.old) }
     {
         let item = member.1.share()?;
         self.members.push((member.0, item))?;
