@@ -1,5 +1,9 @@
--- What was gained where a call gave up.
-use Rattle.std.proofs.Common.{ℕ, List, [], refl, sym, append-nil}
+-- What was gained where a call gave up, or went on.
+use Rattle.std.proofs.Common.{◌≡◌, ℕ, ◌+◌, ◌<◌, List, [], ◌++◌, length, get_or, take, drop, refl, sym, ap, subst, ◌∙◌, append-nil, append_assoc}
+use Rattle.std.specs.Prelude.{Result, Ok, Err, OnErr, is_ok, if◌then◌else◌}
+use Rattle.std.specs.List.{flat_map}
+use Rattle.std.proofs.lemmas.List.{take_more, take-append-drop, drop_more, flat_map_more}
+use Rattle.std.proofs.lemmas.List.Concat.{flat_map-append}
 use Rattle.definitions.specs.Outside.{GainsFront}
 use Rattle.job_laws.specs.Gained.{GainsPairs}
 
@@ -10,3 +14,29 @@ gains_nothing all old = ([], (all, refl), sym (append-nil old))
 -- no pair was gained
 pub gains_no_pairs : {V : Type 0} (all old : List (List ℕ × V)) → GainsPairs all old old
 gains_no_pairs all old = ([], all, refl, sym (append-nil old))
+
+-- unless the call gave up, nothing is said
+pub gains_unless_ok : {A E : Type 0} (r : Result A E) (all more old new : List ℕ) → new ≡ (if is_ok r then old ++ more else old) → OnErr r (GainsFront all old new)
+gains_unless_ok (Ok x) all more old new is = tt
+gains_unless_ok (Err e) all more old new is = subst (GainsFront all old) (sym is) (gains_nothing all old)
+
+module _ {A : Type 0} (f : A → List ℕ) (v : List A) (i : ℕ) (d : A) (within : i < length v) where
+  -- one piece more
+  pub piece_more : (old : List ℕ) → (old ++ flat_map f (take i v)) ++ f (get_or v i d) ≡ old ++ flat_map f (take (i + 1) v)
+  piece_more old = flat_map_more f old (take i v) (get_or v i d) ∙ ap (λ l. old ++ flat_map f l) (sym (take_more v i d within))
+
+  -- all pieces, from a piece on
+  all_pieces : flat_map f v ≡ flat_map f (take i v) ++ (f (get_or v i d) ++ flat_map f (drop (i + 1) v))
+  all_pieces = ap (flat_map f) (sym (take-append-drop i v)) ∙ flat_map-append f (take i v) (drop i v) ∙ ap (λ l. flat_map f (take i v) ++ flat_map f l) (drop_more v i d within)
+
+  -- the pieces before one were gained, and a front of it
+  pub gains_next : (old mid new : List ℕ) → mid ≡ old ++ flat_map f (take i v) → GainsFront (f (get_or v i d)) mid new → GainsFront (flat_map f v) old new
+  gains_next old mid new at g =
+      let front = flat_map f (take i v) in
+      let rest = flat_map f (drop (i + 1) v) in
+      let all : flat_map f v ≡ (front ++ g.0) ++ (g.1.0 ++ rest) =
+      all_pieces
+      ∙ ap (λ l. front ++ (l ++ rest)) g.1.1
+      ∙ ap (λ l. front ++ l) (append_assoc g.0 g.1.0 rest)
+      ∙ sym (append_assoc front g.0 (g.1.0 ++ rest)) in
+      (front ++ g.0, (g.1.0 ++ rest, all), g.2 ∙ ap (λ l. l ++ g.0) at ∙ append_assoc old front g.0)

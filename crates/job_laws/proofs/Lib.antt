@@ -1,1 +1,2 @@
+pub mod FirstTab
 pub mod Gains

@@ -1,5 +1,6 @@
 pub mod Counted
 pub mod Encoding
-pub mod Gained
+pub mod Fields
 pub mod Forms
+pub mod Gained
 pub mod Laws

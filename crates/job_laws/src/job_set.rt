@@ -1,21 +1,47 @@
 // The jobs that a program is handed.
-ghost use Rattle.std.specs.Prelude.{◌≡◌, ℕ, List};
+ghost use Rattle.std.specs.Prelude.{◌≡◌, ◌≤◌, ℕ, List};
 ghost use Rattle.definitions.specs.Records.{IsRecord};
-ghost use Rattle.job_laws.specs.Forms.{is_count_record};
+ghost use Rattle.job_laws.specs.Forms.{is_count_record, is_index_record, is_topk_record, is_latest_record};
 
-use crate::{Meter, Swaps};
+use crate::{Job, Meter, Swaps};
 
 /// The jobs that a program is handed, with one meter. Nothing is said of what they emit, join and write beyond the
-/// laws of [`crate::Job`] and [`Swaps`], so a program makes values by their calls alone.
+/// laws of [`crate::Job`] and [`Swaps`], so a program makes values by their calls alone. Its calls take no memory.
 pub trait JobSet {
     type Meter: Meter;
 
     type Count: Swaps<Meter = Self::Meter>;
 
+    type Index: Swaps<Meter = Self::Meter>;
+
+    type TopK: Swaps<Meter = Self::Meter>;
+
+    type Latest: Job<Meter = Self::Meter>;
+
     /// The job `count`, of setting 0.
     fn count(&self) -> Self::Count
         ensures { Self.Count.setting result ≡ 0 };
 
-    // It accepts exactly the records of its form.
+    /// The job `index`, of setting 0.
+    fn index(&self) -> Self::Index
+        ensures { Self.Index.setting result ≡ 0 };
+
+    /// The job `topk` that keeps `k` members, which is its setting.
+    fn topk(&self, k: u32) -> Self::TopK
+        requires least { 1 ≤ k }
+        requires most { k ≤ 1000 }
+        ensures { Self.TopK.setting result ≡ k };
+
+    /// The job `latest`, of setting 0.
+    fn latest(&self) -> Self::Latest
+        ensures { Self.Latest.setting result ≡ 0 };
+
+    // Each accepts exactly the records of its form.
     ghost count_accepts: { (r : List ℕ) → IsRecord r → Self.Count.accepts 0 r ≡ is_count_record r };
+
+    ghost index_accepts: { (r : List ℕ) → IsRecord r → Self.Index.accepts 0 r ≡ is_index_record r };
+
+    ghost topk_accepts: { (k : ℕ) (r : List ℕ) → 1 ≤ k → k ≤ 1000 → IsRecord r → Self.TopK.accepts k r ≡ is_topk_record r };
+
+    ghost latest_accepts: { (r : List ℕ) → IsRecord r → Self.Latest.accepts 0 r ≡ is_latest_record r };
 }

@@ -6,6 +6,7 @@
 mod count_meter;
 mod emit;
 mod encoding;
+mod fields;
 mod job;
 mod job_set;
 mod key;
@@ -18,6 +19,7 @@ mod tests;
 pub use count_meter::CountMeter;
 pub use emit::Emit;
 pub use encoding::{be32_bytes, be64_bytes};
+pub use fields::tab_at;
 pub use job::{Job, Swaps};
 pub use job_set::JobSet;
 pub use key::Key;

@@ -1,7 +1,7 @@
 // Keys, emitted pairs and counts, as a caller meets them.
 ghost use Rattle.std.specs.Prelude.{length};
 
-use crate::{CountMeter, Counts, Emit, Key, Meter, MeterRow, be32_bytes, be64_bytes};
+use crate::{CountMeter, Counts, Emit, Key, Meter, MeterRow, be32_bytes, be64_bytes, tab_at};
 use std::cmp::Ordering;
 use std::test::Fail;
 
@@ -84,5 +84,15 @@ fn each_call_raises_its_own_count(rt: HostRuntime) -> Result<(), Fail> {
 fn numbers_stand_with_their_highest_byte_first(rt: HostRuntime) -> Result<(), Fail> {
     assert_eq!(rt; be32_bytes(0x0102_0304), [1, 2, 3, 4]);
     assert_eq!(rt; be64_bytes(0x0102_0304_0506_0708), [1, 2, 3, 4, 5, 6, 7, 8]);
+    Ok(())
+}
+
+#[test]
+fn a_record_divides_at_its_first_tab(rt: HostRuntime) -> Result<(), Fail> {
+    assert_eq!(rt; tab_at(b""), 0);
+    assert_eq!(rt; tab_at(b"\t"), 0);
+    assert_eq!(rt; tab_at(b"ab\tc\td"), 2);
+    assert_eq!(rt; tab_at(b"ab\t"), 2);
+    assert_eq!(rt; tab_at(b"a b"), 3);
     Ok(())
 }

@@ -1,9 +1,10 @@
 -- The job `count`: how often each word stands.
-use Rattle.std.specs.Prelude.{◌≡◌, ◌≤◌, ℕ, ◌+◌, ◌-◌, ◌^◌, min, Bool, true, false, nat_le, if◌then◌else◌, List, [], ◌∷◌, ◌++◌, length, map, decimal}
+use Rattle.std.specs.Prelude.{◌≡◌, ◌≤◌, ℕ, ◌+◌, ◌-◌, ◌^◌, min, Bool, nat_le, List, [], ◌∷◌, ◌++◌, length, map, decimal}
 use Rattle.std.proofs.Common.{arith}
-use Rattle.definitions.specs.Records.{is_word_byte, word_before, words_behind, words_of}
+use Rattle.definitions.specs.Records.{words_of}
 use Rattle.definitions.specs.Tables.{HasGoodValues, IsGoodJoin}
 use Rattle.job_laws.specs.Encoding.{be64}
+use Rattle.jobs_basic.specs.Words.{good_words}
 
 -- count accepts every record
 abbrev pub count_accepts : List ℕ → Bool
@@ -33,20 +34,9 @@ count_text word n = word ++ (9 ∷ decimal n ++ 10 ∷ [])
 abbrev pub count_encoded : ℕ → List ℕ
 count_encoded n = be64 n
 
-good_before : (front : List ℕ) (words : List (List ℕ)) → HasGoodValues count_good (map once words) → HasGoodValues count_good (map once (word_before front words))
-good_before [] words h = h
-good_before (b ∷ bs) words h = (omega arith, h)
-
-good_behind : (front r : List ℕ) → HasGoodValues count_good (map once (words_behind front r))
-good_behind front [] = good_before front [] tt
-good_behind front (b ∷ bs) = elim (is_word_byte b) as (λ c. HasGoodValues count_good (map once (if c then words_behind (front ++ b ∷ []) bs else word_before front (words_behind [] bs)))) [
-  | true ↦ good_behind (front ++ b ∷ []) bs
-  | false ↦ good_before front (words_behind [] bs) (good_behind [] bs)
-]
-
 -- emitted counts are good
 pub count_emits_good : (r : List ℕ) → HasGoodValues count_good (count_emits r)
-count_emits_good r = good_behind [] r
+count_emits_good r = good_words count_good once (λ word. omega arith) r
 
 -- joining keeps good counts, and is associative on them
 pub count_join_laws : IsGoodJoin count_good count_joined

@@ -1,8 +1,8 @@
 // Counts words.
-ghost use Rattle.std.specs.Prelude.{◌≡◌};
+ghost use Rattle.std.specs.Prelude.{◌≡◌, ◌≤◌, length, IfOk};
 ghost use Rattle.jobs_basic.specs.Count.{count_accepts, count_emits, count_joined, count_good, count_text, count_encoded, count_emits_good, count_join_laws, count_joined_comm};
 
-use crate::words::count_words;
+use crate::words::next_word;
 use job_laws::{Emit, Job, Key, Meter, Swaps, be64_bytes};
 use std::alloc::{AllocError, Global};
 use std::marker::PhantomData;
@@ -19,6 +19,20 @@ impl<M: Meter> Count<M> {
     pub fn new() -> Count<M> {
         Count { meter: PhantomData }
     }
+}
+
+// Each word of the record in order, with 1.
+fn count_words(alloc: Global, r: &[u8]) -> Result<Emit<u64>, AllocError>
+    requires { length r.now ≤ 65535 }
+    ensures { IfOk result (λ counted. counted ≡ count_emits r.now) }
+{
+    let mut counted = Emit::new(alloc);
+    let mut rest = r;
+    'words: while let Some((word, behind)) = next_word(rest) {
+        counted.put(alloc, word, 1)?;
+        rest = behind;
+    }
+    Ok(counted)
 }
 
 impl<M: Meter> Job for Count<M> {

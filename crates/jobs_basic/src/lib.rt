@@ -1,10 +1,19 @@
-//! The jobs whose values are plain: so far [`Count`], how often each word stands. Each job's meanings are definitions
-//! in `specs/`, and its laws are proved there for every value. Mapping a record is one pass over its bytes.
+//! The jobs whose values are plain: [`Count`], how often each word stands, [`Index`], in which documents it stands, and
+//! [`Latest`], the value that came last for each key. Each job's meanings are definitions in `specs/`, and its laws are
+//! proved there for every value. Mapping a record is one pass over its bytes, and joining two values is one pass at most.
 #![tactic(auto)]
 
+mod bytes;
 mod count;
+mod docs;
+mod index;
+mod latest;
 #[cfg(test)]
 mod tests;
 mod words;
 
+pub use bytes::Bytes;
 pub use count::Count;
+pub use docs::Docs;
+pub use index::Index;
+pub use latest::Latest;

@@ -1,41 +1,39 @@
-// The words of a record, each with 1.
-ghost use Rattle.std.specs.Prelude.{◌≡◌, ◌≤◌, ◌++◌, ℕ, List, length, map, IfOk, OnOk};
-ghost use Rattle.definitions.specs.Records.{is_word_byte, word_before};
-ghost use Rattle.jobs_basic.specs.Count.{once, count_emits};
+// The words of a text.
+ghost use Rattle.std.specs.Prelude.{◌≡◌, ◌≤◌, ◌++◌, ℕ, List, length, take, drop};
+ghost use Rattle.definitions.specs.Records.{is_word_byte, word_before, words_behind, words_of};
+ghost use Rattle.jobs_basic.specs.Words.{SplitsWord};
 
-use job_laws::Emit;
-use std::alloc::{AllocError, Global};
-
+/// Whether the byte belongs to a word.
 fn is_in_word(b: u8) -> bool
     ensures { result ≡ is_word_byte b }
 {
     b.is_ascii_alphanumeric()
 }
 
-// Puts a word that has ended, unless it has no bytes.
-fn put_word(alloc: Global, word: &[u8], counted: &mut Emit<u64>) -> Result<(), AllocError>
-    requires { length word.now ≤ 65535 }
-    ensures { OnOk result ((behind : List (List ℕ)) → counted.new ++ map once behind ≡ counted.old ++ map once (word_before word.now behind)) }
+// How many bytes of a text go on with a word that stands before it.
+fn word_length(text: &[u8]) -> usize
+    ensures fits { result ≤ length text.now }
+    ensures word { (front : List ℕ) → words_behind front text.now ≡ word_before (front ++ take result text.now) (words_of (drop result text.now)) }
 {
-    if word.is_empty() {
-        return Ok(());
-    }
-    counted.put(alloc, word, 1)
-}
-
-/// Each word of the record in order, with 1. It is one pass; each word's bytes are copied once.
-pub fn count_words(alloc: Global, r: &[u8]) -> Result<Emit<u64>, AllocError>
-    requires { length r.now ≤ 65535 }
-    ensures { IfOk result (λ counted. counted ≡ count_emits r.now) }
-{
-    let mut counted = Emit::new(alloc);
-    let mut start = 0;
-    'bytes: for i in 0..r.len() {
-        if !is_in_word(r[i]) {
-            put_word(alloc, &r[start..i], &mut counted)?;
-            start = i + 1;
+    'bytes: for i in 0..text.len() {
+        if !is_in_word(text[i]) {
+            return i;
         }
     }
-    put_word(alloc, &r[start..], &mut counted)?;
-    Ok(counted)
+    text.len()
+}
+
+/// The first word of a text, and what stands behind it; none where the text has no word. It is one pass up to the
+/// word's end.
+pub fn next_word(text: &[u8]) -> Option<(&[u8], &[u8])>
+    ensures { SplitsWord text.now result }
+{
+    let mut rest = text;
+    'gap: while let [b, more @ ..] = rest {
+        if is_in_word(*b) {
+            return Some(rest.split_at(1 + word_length(more)));
+        }
+        rest = more;
+    }
+    None
 }

@@ -1,10 +1,12 @@
 -- What a call of the program promises.
-use Rattle.std.specs.Prelude.{◌≡◌, ℕ, List, [], ◌++◌, Option, ◌⊎◌}
+use Rattle.std.specs.Prelude.{◌≡◌, ℕ, List, [], ◌++◌, Option, Some, None, ◌⊎◌}
 use Rattle.definitions.specs.Outside.{Rose, Told, GainsFront}
 use Rattle.record_text.specs.declared.script_fault.Why.{Why}
 use Rattle.record_text.specs.Script.{commands}
 use Rattle.slider_session.specs.Output.{Meaning, output_of, ending_of}
 use Rattle.slider_session.specs.Serving.{Whole, AtFault, OfTaken}
+use Rattle.slider_program.specs.declared.words.NamedJob.{NamedJob}
+use Rattle.slider_program.specs.declared.words.NamedJob.TheVariants.{Count, Index, Latest, TopK}
 use Rattle.slider_program.specs.Words.{usage_line, fault_line, end_line}
 
 -- the limit of a script
@@ -51,3 +53,12 @@ module _ {V : Type 0} (j : Meaning V) where
     pub said : Told old.left new.left (λ script after. Told old.held new.held (λ bytes more. Told old.said new.said (GainsFront (end_line (ending_of j (commands most_script script))))))
     -- there is no other status; 6 is want of memory
     pub known : (status ≡ 0) ⊎ (status ≡ 3) ⊎ (status ≡ 4) ⊎ (status ≡ 5) ⊎ (status ≡ 6)
+
+module _ {C I L T : Type 0} (count : Meaning C) (index : Meaning I) (latest : Meaning L) (topk : ℕ → Meaning T) where
+  -- what was answered over the job that the words name, of these four; `Refused` says what comes of words that name none
+  abbrev pub AnsweredBy : Option NamedJob → Seen → Seen → ℕ → Type 0
+  AnsweredBy None old new status = Unit {0}
+  AnsweredBy (Some Count) old new status = Answered count old new status
+  AnsweredBy (Some Index) old new status = Answered index old new status
+  AnsweredBy (Some Latest) old new status = Answered latest old new status
+  AnsweredBy (Some (TopK k)) old new status = Answered (topk k) old new status

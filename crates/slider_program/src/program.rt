@@ -3,10 +3,11 @@ ghost use Rattle.std.specs.Prelude.{◌≡◌, ◌⊎◌, ◌+◌, ℕ, List, le
 ghost use Rattle.definitions.specs.Outside.{Told, GainsFront};
 ghost use Rattle.slider_session.specs.Output.{meaning};
 ghost use Rattle.slider_session.specs.Serving.{FitsMeters};
-ghost use Rattle.slider_program.specs.Words.{AreAccepted, fault_line};
-ghost use Rattle.slider_program.specs.Program.{Seen, Tries, Refused, Answered};
+ghost use Rattle.std.specs.declared.option.Option.TheVariants.{None};
+ghost use Rattle.slider_program.specs.Words.{job_of, fault_line};
+ghost use Rattle.slider_program.specs.Program.{Seen, Tries, Refused, Answered, AnsweredBy};
 
-use crate::words::{are_accepted, line_of_fault};
+use crate::words::{NamedJob, line_of_fault, named_job};
 use job_laws::{Job, JobSet, MeterRow};
 use record_text::ScriptFault;
 use slider_io::{Gate, Sink, Source, WriteFault, put_all};
@@ -80,17 +81,24 @@ pub fn run_program<Q: Threads + Wait + Sync, S: Source, K: Sink, E: Sink, B: Job
     _gate: &G,
 ) -> u8
     requires meters { FitsMeters meters.old.lanes.items meters.old.parts.items }
-    ensures refused { (AreAccepted (map string_bytes words.now) → ⊥) → Refused
+    ensures refused { job_of (map string_bytes words.now) ≡ None → Refused
         record { left = S.left source.old; held = K.held out.old; said = E.held err.old; source_faults = S.faults source.old; out_faults = K.faults out.old; err_faults = E.faults err.old }
         record { left = S.left source.new; held = K.held out.new; said = E.held err.new; source_faults = S.faults source.new; out_faults = K.faults out.new; err_faults = E.faults err.new } result }
-    ensures untouched { (AreAccepted (map string_bytes words.now) → ⊥) → (meters.new ≡ meters.old) }
-    ensures answered { AreAccepted (map string_bytes words.now) → Answered (meaning (B.Count.accepts 0) (B.Count.emits 0) (B.Count.joined 0) (B.Count.text 0))
+    ensures untouched { job_of (map string_bytes words.now) ≡ None → (meters.new ≡ meters.old) }
+    ensures answered { AnsweredBy
+        (meaning (B.Count.accepts 0) (B.Count.emits 0) (B.Count.joined 0) (B.Count.text 0))
+        (meaning (B.Index.accepts 0) (B.Index.emits 0) (B.Index.joined 0) (B.Index.text 0))
+        (meaning (B.Latest.accepts 0) (B.Latest.emits 0) (B.Latest.joined 0) (B.Latest.text 0))
+        (λ k. meaning (B.TopK.accepts k) (B.TopK.emits k) (B.TopK.joined k) (B.TopK.text k)) (job_of (map string_bytes words.now))
         record { left = S.left source.old; held = K.held out.old; said = E.held err.old; source_faults = S.faults source.old; out_faults = K.faults out.old; err_faults = E.faults err.old }
         record { left = S.left source.new; held = K.held out.new; said = E.held err.new; source_faults = S.faults source.new; out_faults = K.faults out.new; err_faults = E.faults err.new } result }
     ensures meters { FitsMeters meters.new.lanes.items meters.new.parts.items }
 {
-    if !are_accepted(words) {
-        return status_after(err, b"usage words\n", 2);
+    match named_job(words) {
+        None => status_after(err, b"usage words\n", 2),
+        Some(NamedJob::Count) => run_job(alloc, jobs.count(), source, out, err, meters),
+        Some(NamedJob::Index) => run_job(alloc, jobs.index(), source, out, err, meters),
+        Some(NamedJob::Latest) => run_job(alloc, jobs.latest(), source, out, err, meters),
+        Some(NamedJob::TopK(k)) => run_job(alloc, jobs.topk(k), source, out, err, meters),
     }
-    run_job(alloc, jobs.count(), source, out, err, meters)
 }

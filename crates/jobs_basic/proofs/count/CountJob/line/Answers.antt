@@ -1,4 +1,3 @@
-use Rattle.std.proofs.Common.{rules}
 use Rattle.std.proofs.lemmas.Result.{err_from_is_err_and}
 use Rattle.job_laws.proofs.Gains.{gains_nothing}
 use Rattle.jobs_basic.specs.Count.{count_text}

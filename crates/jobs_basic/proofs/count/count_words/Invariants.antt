@@ -1,0 +1,13 @@
+use Rattle.std.proofs.Common.{◌≡◌, ◌≤◌, ◌++◌, length, map}
+use Rattle.definitions.specs.Records.{words_of}
+use Rattle.jobs_basic.specs.Count.{once, count_emits}
+use Rattle.jobs_basic.proofs.count.count_words.Given as goal
+
+abbrev pub invariant-words : goal.invariant-words
+invariant-words l = record {
+  counted : l.counted ++ map once (words_of l.rest) ≡ count_emits l.r;
+  within : length l.rest ≤ length l.r;
+}
+
+abbrev pub decreases-words : goal.decreases-words
+decreases-words l = length l.rest

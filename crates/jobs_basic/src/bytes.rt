@@ -1,0 +1,50 @@
+// Bytes that tables share.
+ghost use Rattle.std.specs.Prelude.{◌≡◌, ◌≤◌, length, IfOk};
+
+use std::alloc::{AllocError, Global};
+use std::marker::Model;
+use std::sync::ArcSlice;
+
+/// Up to 65,535 bytes, or none. They are shared and never change.
+#[derive(Drop)]
+pub struct Bytes {
+    bytes: ArcSlice<u8>,
+}
+
+impl Model for Bytes {
+    ghost use Rattle.std.specs.Prelude.{List, ℕ, ◌≤◌, length};
+    ghost use Rattle.std.specs.Arc.{arc_slice_items};
+
+    ghost Value = { List ℕ };
+
+    ghost view = { λ b. arc_slice_items b.bytes };
+
+    ghost invariant = { λ b. length (arc_slice_items b.bytes) ≤ 65535 };
+}
+
+impl Bytes {
+    /// These bytes, which are copied.
+    pub fn of(alloc: Global, bytes: &[u8]) -> Result<Bytes, AllocError>
+        requires { length bytes.now ≤ 65535 }
+        ensures { IfOk result (λ b. b ≡ bytes.now) }
+    {
+        let bytes = ArcSlice::from_slice(alloc, bytes)?;
+        Ok(Bytes { bytes })
+    }
+
+    /// The bytes.
+    pub fn bytes(&self) -> &[u8]
+        ensures value { result.now ≡ self.now }
+        ensures fits { length self.now ≤ 65535 }
+    {
+        self.bytes.as_slice()
+    }
+
+    /// The same bytes once more. None is copied; it fails only where the count of their owners is full.
+    pub fn share(&self) -> Result<Bytes, AllocError>
+        ensures { IfOk result (λ b. b ≡ self.now) }
+    {
+        let bytes = self.bytes.clone()?;
+        Ok(Bytes { bytes })
+    }
+}
