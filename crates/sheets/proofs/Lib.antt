@@ -3,4 +3,4 @@ pub mod GroupLaws
 pub mod EntryLaws
 pub mod TieLaws
 pub mod MergedLaws
-mod PartLaws
+pub mod PartLaws

@@ -1,5 +1,5 @@
 -- The entries of each part.
-use Rattle.std.proofs.Common.{◌≡◌, ◌≢◌, ℕ, ◌<◌, Bool, true, false, cond, ◌==◌, List, [], ◌∷◌, ◌++◌, length, filter, map, replicate, All, length-set, get_or-set_same, get_or-set_other, refl, sym, ap, subst, ◌∙◌, append-nil, arith}
+use Rattle.std.proofs.Common.{◌≡◌, ◌≢◌, ℕ, ◌<◌, Bool, true, false, cond, ◌==◌, ◌%◌, List, [], ◌∷◌, ◌++◌, length, filter, map, replicate, All, length-set, get_or-set_same, get_or-set_other, refl, sym, ap, subst, ◌∙◌, append-nil, arith}
 use Rattle.std.specs.Prelude.{slice_index_or, slice_set}
 use Rattle.std.specs.FinMap.Entries.{is_sorted-where_key}
 use Rattle.std.proofs.lemmas.List.{get_or-map, length-map, length-replicate, get_or-replicate}
@@ -8,7 +8,7 @@ use Rattle.std.proofs.lemmas.Bool.{eq-eqb, ne_eqb}
 use Rattle.std.proofs.lemmas.Bool.Decides.{nat_tests}
 use Rattle.definitions.specs.Tables.{key_cmp, IsRising, HasGoodValues}
 use Rattle.definitions.proofs.TableLaws.{is_true, passes}
-use Rattle.partition.specs.Parts.{part_number}
+use Rattle.partition.specs.Parts.{hash_of, part_number}
 use Rattle.sheets.specs.Sheets.{SheetOf}
 use Rattle.sheets.specs.Parts.{in_part, HasParts, AreSheets}
 
@@ -63,3 +63,11 @@ module _ {V : Type 0} (parts : ℕ) where
   -- what holds of the entries of every part holds of all lists
   pub each_part : (P : List (List ℕ × V) → Type 0) (t : List (List ℕ × V)) (lists : List (List (List ℕ × V))) → HasParts parts t lists → ((part : ℕ) → P (in_part parts part t)) → All P lists
   each_part P t lists has holds part d h = let n = has.count in subst P (sym (has.each part d (omega (arith, h, n)))) (holds part)
+
+-- one part has all entries
+pub one_part : {V : Type 0} (t : List (List ℕ × V)) → in_part 1 0 t ≡ t
+one_part [] = refl
+one_part (e ∷ t) = ap (λ (b : Bool). cond b (e ∷ in_part 1 0 t) (in_part 1 0 t)) {y = true} (only_zero (hash_of e.0)) ∙ ap (λ l. e ∷ l) (one_part t)
+  where
+    only_zero : (n : ℕ) → n % 1 == 0 ≡ true
+    only_zero n = grind (arith, nat_tests)
