@@ -3,3 +3,4 @@ pub mod GroupLaws
 pub mod EntryLaws
 pub mod TieLaws
 pub mod MergedLaws
+pub mod PartLaws

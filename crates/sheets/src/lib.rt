@@ -3,9 +3,11 @@
 //! n log n in the pairs and a merge linear in the entries; keys are shared and never copied. No table ever changes.
 #![tactic(auto)]
 
+mod digest;
 mod grouping;
 mod mapping;
 mod merging;
+mod parts;
 mod sheet;
 mod table;
 #[cfg(test)]

@@ -1,17 +1,19 @@
 // The sheets of records.
-ghost use Rattle.std.specs.Prelude.{◌≡◌, ◌∷◌, [], length, IsTrue, All, IfOk, OnOk};
+ghost use Rattle.std.specs.Prelude.{◌≡◌, ◌≤◌, length, IsTrue, All, IfOk, OnOk};
 ghost use Rattle.definitions.specs.Answer.{pairs_of};
 ghost use Rattle.definitions.specs.Tables.{HasGoodValues, table_of};
 ghost use Rattle.job_laws.specs.Counted.{RoseWithin};
 ghost use Rattle.sheets.specs.Sheets.{risen_by};
+ghost use Rattle.sheets.specs.Parts.{AreSheets};
 
+use crate::Sheet;
 use crate::grouping::grouped;
-use crate::{Sheet, Table};
+use crate::parts::sheets_of_parts;
 use job_laws::{Emit, Job, Meter};
 use record_text::Records;
 use std::alloc::{AllocError, Global};
 
-/// The sheet of each part: the table of the pairs that the records emit, in emitted order. So far there is one part.
+/// The sheet of each part: the entries of that part in the table of the pairs that the records emit, in emitted order.
 /// It is n log n in the pairs.
 pub fn map_sheets<J: Job>(
     alloc: Global,
@@ -21,8 +23,8 @@ pub fn map_sheets<J: Job>(
     m: &mut J::Meter,
 ) -> Result<Vec<Sheet<J>>, AllocError>
     requires accepted { All (λ r. IsTrue (J.accepts (J.setting job.now) r)) records.now }
-    requires parts { parts ≡ 1 }
-    ensures ok { IfOk result (λ sheets. sheets.items ≡ record { setting = J.setting job.now; entries = table_of (J.joined (J.setting job.now)) (pairs_of (J.emits (J.setting job.now)) records.now) } ∷ []) }
+    requires parts { (1 ≤ parts) × (parts ≤ 16) }
+    ensures ok { IfOk result (λ sheets. AreSheets (J.setting job.now) parts (table_of (J.joined (J.setting job.now)) (pairs_of (J.emits (J.setting job.now)) records.now)) sheets.items) }
     ensures mapped { OnOk result (J.Meter.maps m.new ≡ risen_by (length records.now) (J.Meter.maps m.old)) }
 
     // Whatever it answers:
@@ -32,10 +34,7 @@ pub fn map_sheets<J: Job>(
 {
     let pairs = map_records(alloc, job, records, m)?;
     let entries = grouped(alloc, job, pairs.pairs(), m)?;
-    let sheet = Sheet::of(alloc, job.setting(), Table::of(entries))?;
-    let mut sheets = Vec::new(alloc);
-    sheets.push(sheet)?;
-    Ok(sheets)
+    sheets_of_parts(alloc, job.setting(), entries, parts)
 }
 
 fn map_records<J: Job>(

@@ -3,30 +3,36 @@ ghost use Rattle.std.specs.Prelude.{◌≡◌, ◌++◌, [], ◌↔◌, ◌^◌,
 ghost use Rattle.definitions.specs.Answer.{lines_of};
 ghost use Rattle.definitions.specs.Outside.{GainsFront};
 ghost use Rattle.definitions.specs.Tables.{IsRising, HasGoodValues};
+ghost use Rattle.sheets.specs.Digests.{table_digest};
 
 use crate::Table;
+use crate::digest::digest_of;
 use job_laws::Job;
 use std::alloc::{AllocError, Global};
 use std::marker::Model;
 use std::sync::Arc;
 
-/// A shared table with the number that its job is set to. Its values are good at this setting, and it never changes.
+/// A shared table with its digest and the number that its job is set to. Its values are good at this setting, and it
+/// never changes.
 #[derive(Drop)]
 pub struct Sheet<J: Job> {
     table: Arc<Table<J>, Global>,
     setting: u32,
+    digest: [u8; 32],
 }
 
 impl<J: Job> Model for Sheet<J> {
     ghost use Rattle.std.specs.Arc.{arc_value};
     ghost use Rattle.definitions.specs.Tables.{HasGoodValues};
+    ghost use Rattle.std.specs.Prelude.{◌≡◌};
     ghost use Rattle.sheets.specs.Sheets.{SheetOf};
+    ghost use Rattle.sheets.specs.Digests.{table_digest};
 
     ghost Value = { SheetOf J.Val };
 
     ghost view = { λ s. record { setting = s.setting; entries = arc_value s.table } };
 
-    ghost invariant = { λ s. HasGoodValues (J.good s.setting) (arc_value s.table) };
+    ghost invariant = { λ s. HasGoodValues (J.good s.setting) (arc_value s.table) × (s.digest ≡ table_digest J.encoded (arc_value s.table)) };
 }
 
 impl<J: Job> Sheet<J> {
@@ -35,18 +41,22 @@ impl<J: Job> Sheet<J> {
         ensures setting { IfOk result (λ s. s.setting ≡ setting) }
         ensures entries { IfOk result (λ s. s.entries ≡ []) }
     {
-        let table = Arc::new(alloc, Table::of(Vec::new(alloc)))?;
-        Ok(Sheet { table, setting })
+        Sheet::of(alloc, setting, Table::of(Vec::new(alloc)))
     }
 
-    /// The sheet of this table.
+    /// The sheet of this table, which is hashed once.
     pub(crate) fn of(alloc: Global, setting: u32, table: Table<J>) -> Result<Sheet<J>, AllocError>
         requires { HasGoodValues (J.good setting) table }
         ensures setting { IfOk result (λ s. s.setting ≡ setting) }
         ensures entries { IfOk result (λ s. s.entries ≡ table) }
     {
+        let digest = digest_of::<J>(alloc, table.as_slice())?;
         let table = Arc::new(alloc, table)?;
-        Ok(Sheet { table, setting })
+        Ok(Sheet {
+            table,
+            setting,
+            digest,
+        })
     }
 
     /// The same sheet once more. Nothing is copied; it fails only where the count of its owners is full.
@@ -57,6 +67,7 @@ impl<J: Job> Sheet<J> {
         Ok(Sheet {
             table,
             setting: self.setting,
+            digest: self.digest,
         })
     }
 
@@ -65,6 +76,14 @@ impl<J: Job> Sheet<J> {
         ensures { result ≡ self.now.setting }
     {
         self.setting
+    }
+
+    /// The digest of the table: SHA-256 over its entries in order, each as the length of its key in 8 bytes, the key, the
+    /// length of its value's encoding in 8 bytes, and that encoding. It was made with the sheet and takes no memory.
+    pub fn digest(&self) -> [u8; 32]
+        ensures { result ≡ table_digest J.encoded self.now.entries }
+    {
+        self.digest
     }
 
     /// The table. It takes no memory.
@@ -85,9 +104,10 @@ impl<J: Job> Sheet<J> {
     }
 }
 
-/// Whether two sheets have equal settings and equal tables. It compares whole tables and takes no memory.
+/// Whether two sheets have equal settings and equal tables. Where their digests are equal it compares whole tables. It
+/// takes no memory.
 pub fn same_sheet<J: Job>(a: &Sheet<J>, b: &Sheet<J>) -> bool
     ensures { IsTrue result ↔ (a.now ≡ b.now) }
 {
-    a.setting() == b.setting() && a.entries().same(b.entries())
+    a.setting == b.setting && a.digest == b.digest && a.entries().same(b.entries())
 }

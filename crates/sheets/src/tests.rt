@@ -188,6 +188,57 @@ fn an_empty_sheet_changes_nothing(rt: HostRuntime) -> Result<(), Fail> {
 }
 
 #[test]
+fn a_sheet_has_the_digest_of_its_table(rt: HostRuntime) -> Result<(), Fail> {
+    let alloc = rt.alloc();
+    let job = LastLength { meter: PhantomData };
+    let mut m = CountMeter::new();
+    // SHA-256 of no bytes, and of 0000000000000001 61 0000000000000008 0000000000000002.
+    let none = Sheet::<LastLength<CountMeter>>::empty(alloc, 3)?;
+    assert_eq!(rt;
+        none.digest(),
+        [
+            0xe3, 0xb0, 0xc4, 0x42, 0x98, 0xfc, 0x1c, 0x14, 0x9a, 0xfb, 0xf4, 0xc8, 0x99, 0x6f,
+            0xb9, 0x24, 0x27, 0xae, 0x41, 0xe4, 0x64, 0x9b, 0x93, 0x4c, 0xa4, 0x95, 0x99, 0x1b,
+            0x78, 0x52, 0xb8, 0x55
+        ]
+    );
+    let one = sheet_of(alloc, &job, b"ab", &mut m)?;
+    assert_eq!(rt;
+        one.digest(),
+        [
+            0x01, 0xef, 0x73, 0x42, 0x1c, 0xb8, 0x54, 0xcf, 0xaa, 0x54, 0x74, 0x42, 0x34, 0x1d,
+            0xbe, 0x46, 0xe1, 0xeb, 0x2a, 0x2b, 0x58, 0x2d, 0xc1, 0xd6, 0x7b, 0x59, 0x1d, 0x9c,
+            0x76, 0xe2, 0x18, 0x55
+        ]
+    );
+    Ok(())
+}
+
+#[test]
+fn each_key_stands_in_its_own_part(rt: HostRuntime) -> Result<(), Fail> {
+    let alloc = rt.alloc();
+    let job = LastLength { meter: PhantomData };
+    let mut m = CountMeter::new();
+    let mut records = Records::new(alloc);
+    for record in [b"c".as_slice(), b"b", b"a"] {
+        if is_record(record) && records.len() < 9 {
+            records.push(record)?;
+        }
+    }
+    if all_accepted(&job, &records) {
+        let sheets = map_sheets(alloc, &job, &records, 16, &mut m)?;
+        assert_eq!(rt; sheets.len(), 16);
+        for (part, want) in [(12, "[97]=1 "), (5, "[98]=1 "), (2, "[99]=1 "), (0, "")] {
+            if let Some(sheet) = sheets.get(part) {
+                assert_eq!(rt; shown(alloc, sheet)?.as_str(), want);
+            }
+        }
+    }
+    assert_eq!(rt; m.counts().maps, 3);
+    Ok(())
+}
+
+#[test]
 fn lines_stand_in_the_order_of_keys(rt: HostRuntime) -> Result<(), Fail> {
     let alloc = rt.alloc();
     let job = LastLength { meter: PhantomData };

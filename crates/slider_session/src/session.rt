@@ -1,8 +1,9 @@
 // One script's window and its runs.
 ghost use Rattle.std.specs.Prelude.{◌≡◌, ◌<◌, ◌≤◌, ◌+◌, ◌^◌, ◌++◌, [], ℕ, List, length, IfOk, IsErrOf};
 ghost use Rattle.definitions.specs.Outside.{Rose};
-ghost use Rattle.definitions.specs.Tables.{HasGoodValues};
-ghost use Rattle.definitions.specs.Answer.{lines_of};
+ghost use Rattle.definitions.specs.Tables.{table_of};
+ghost use Rattle.definitions.specs.Answer.{pairs_of, lines_of};
+ghost use Rattle.slider_session.specs.Window.{AllAccepted};
 ghost use Rattle.slider_session.specs.Output.{Meaning, meaning, header};
 ghost use Rattle.slider_session.specs.Serving.{Held, Steps, Stays, IsOfScript, FitsMeters};
 ghost use Rattle.slider_session.specs.Calls.{Adds, Answers};
@@ -103,7 +104,7 @@ impl<J: Job> Session<J> {
             }
             None => (),
         }
-        let bucket = match map_sheets(alloc, &self.job, records, 1, &mut meters.lanes[0]) {
+        let bucket = match sheet_of(alloc, &self.job, records, &mut meters.lanes[0]) {
             Ok(bucket) => bucket,
             Err(_) => return Err(Halt::Mem),
         };
@@ -111,7 +112,7 @@ impl<J: Job> Session<J> {
             alloc,
             &self.job,
             &self.window,
-            &bucket[0],
+            &bucket,
             &mut meters.parts[0],
         ) {
             Ok(window) => self.window = window,
@@ -139,6 +140,21 @@ impl<J: Job> Session<J> {
             Err(WriteFault::Mem) => Err(Halt::Mem),
         }
     }
+}
+
+/// The sheet of a bucket, in one part.
+fn sheet_of<J: Job>(
+    alloc: Global,
+    job: &J,
+    records: &Records,
+    m: &mut J::Meter,
+) -> Result<Sheet<J>, AllocError>
+    requires accepted { AllAccepted (J.accepts (J.setting job.now)) records.now }
+    ensures setting { IfOk result (λ s. s.setting ≡ J.setting job.now) }
+    ensures entries { IfOk result (λ s. s.entries ≡ table_of (J.joined (J.setting job.now)) (pairs_of (J.emits (J.setting job.now)) records.now)) }
+{
+    let mut sheets = map_sheets(alloc, job, records, 1, m)?;
+    Ok(sheets.swap_remove(0))
 }
 
 /// What a run writes over a window.
