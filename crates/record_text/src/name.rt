@@ -1,8 +1,9 @@
 // Names of files.
-ghost use Rattle.std.specs.Prelude.{◌≡◌, ◌↔◌, IsTrue, IfOk};
-ghost use Rattle.record_text.specs.Names.{IsName};
+ghost use Rattle.std.specs.Prelude.{◌≡◌, ◌↔◌, [], IsTrue, IfOk};
+ghost use Rattle.record_text.specs.Names.{IsName, name_cmp};
 
 use std::alloc::{AllocError, Global};
+use std::cmp::Ordering;
 use std::marker::Model;
 
 /// Whether these bytes may be the name of a file: at most 255 bytes without a space and LF.
@@ -12,7 +13,7 @@ pub fn is_name(bytes: &[u8]) -> bool
     bytes.len() <= 255 && !bytes.contains(&b' ') && !bytes.contains(&b'\n')
 }
 
-/// The name of a file, seen as its bytes.
+/// The name of a file, seen as its bytes: at most 255, without a space and LF. It may be empty.
 #[derive(Drop)]
 pub struct Name {
     bytes: Vec<u8>,
@@ -30,7 +31,16 @@ impl Model for Name {
 }
 
 impl Name {
-    /// The name with these bytes.
+    /// The empty name. It takes no memory.
+    pub fn empty(alloc: Global) -> Name
+        ensures { result ≡ [] }
+    {
+        Name {
+            bytes: Vec::new(alloc),
+        }
+    }
+
+    /// The name with these bytes, which are copied.
     pub fn of(alloc: Global, bytes: &[u8]) -> Result<Name, AllocError>
         requires { IsName bytes.now }
         ensures { IfOk result (λ name. name ≡ bytes.now) }
@@ -45,5 +55,27 @@ impl Name {
         ensures name { IsName self.now }
     {
         &self.bytes
+    }
+
+    /// The same name once more, with memory of its own.
+    pub fn copy(&self, alloc: Global) -> Result<Name, AllocError>
+        ensures { IfOk result (λ copy. copy ≡ self.now) }
+    {
+        let bytes = self.bytes.to_vec(alloc)?;
+        Ok(Name { bytes })
+    }
+
+    /// Whether these are equal names.
+    pub fn same(&self, other: &Name) -> bool
+        ensures { IsTrue result ↔ (self.now ≡ other.now) }
+    {
+        self.bytes == other.bytes
+    }
+
+    /// The byte order of two names: a name comes before all that it begins.
+    pub fn compare(&self, other: &Name) -> Ordering
+        ensures { result ≡ name_cmp self.now other.now }
+    {
+        self.bytes.as_slice().cmp(&other.bytes.as_slice())
     }
 }

@@ -7,6 +7,7 @@ use crate::{
 };
 use slider_io::{MemSource, Source};
 use std::alloc::{AllocError, Global};
+use std::cmp::Ordering;
 
 /// A command with its line, and the number and size of its records.
 fn spelled(alloc: Global, command: &Command, line: u64) -> Result<String, AllocError> {
@@ -174,20 +175,80 @@ fn records_keep_their_order(rt: HostRuntime) -> Result<(), AllocError> {
 }
 
 #[test]
-fn names_and_places_are_checked(rt: HostRuntime) -> Result<(), AllocError> {
+fn names_have_255_bytes_without_space_and_lf(rt: HostRuntime) {
+    for bytes in [
+        b"".as_slice(),
+        b"a".as_slice(),
+        b"a\t\r\0\xff".as_slice(),
+        [b'n'; 255].as_slice(),
+    ] {
+        assert!(rt; is_name(bytes));
+    }
+    for bytes in [
+        b" ".as_slice(),
+        b"a b".as_slice(),
+        b"a\n".as_slice(),
+        [b'n'; 256].as_slice(),
+    ] {
+        assert!(rt; !is_name(bytes));
+    }
+}
+
+/// How two names are ordered and whether they are equal, or none where one is no name.
+fn ordered(
+    alloc: Global,
+    left: &[u8],
+    right: &[u8],
+) -> Result<Option<(Ordering, bool)>, AllocError> {
+    if !is_name(left) || !is_name(right) {
+        return Ok(None);
+    }
+    let left = Name::of(alloc, left)?;
+    let right = Name::of(alloc, right)?;
+    Ok(Some((left.compare(&right), left.same(&right))))
+}
+
+#[test]
+fn names_are_ordered_bytewise(rt: HostRuntime) -> Result<(), AllocError> {
+    for (left, right, want) in [
+        (b"".as_slice(), b"".as_slice(), Ordering::Equal),
+        (b"".as_slice(), b"a".as_slice(), Ordering::Less),
+        (b"a".as_slice(), b"ab".as_slice(), Ordering::Less),
+        (b"b".as_slice(), b"ab".as_slice(), Ordering::Greater),
+        (b"a".as_slice(), b"B".as_slice(), Ordering::Greater),
+        (b"a\xff".as_slice(), b"a~".as_slice(), Ordering::Greater),
+        (b"a\t".as_slice(), b"a\t".as_slice(), Ordering::Equal),
+    ] {
+        let same = want == Ordering::Equal;
+        assert_eq!(rt; ordered(rt.alloc(), left, right)?, Some((want, same)));
+    }
+    Ok(())
+}
+
+#[test]
+fn a_name_keeps_its_bytes(rt: HostRuntime) -> Result<(), AllocError> {
     let alloc = rt.alloc();
-    assert!(rt; is_name(&[b'n'; 255]));
-    assert!(rt; !is_name(&[b'n'; 256]));
-    assert!(rt; !is_name(b"a b"));
-    assert!(rt; !is_name(b"a\n"));
     if is_name(b"a\t") {
         let name = Name::of(alloc, b"a\t")?;
         assert_eq!(rt; name.bytes(), b"a\t".as_slice());
+        let copy = name.copy(alloc)?;
+        assert_eq!(rt; copy.bytes(), b"a\t".as_slice());
+        assert!(rt; copy.same(&name));
+        assert!(rt; !name.same(&Name::empty(alloc)));
     }
+    assert_eq!(rt; Name::empty(alloc).bytes(), b"".as_slice());
+    Ok(())
+}
+
+#[test]
+fn places_rise(rt: HostRuntime) -> Result<(), AllocError> {
+    let alloc = rt.alloc();
     let mut places = Places::new(alloc);
+    assert_eq!(rt; places.len(), 0);
     places.push(0)?;
     places.push(7)?;
     assert_eq!(rt; places.len(), 2);
+    assert_eq!(rt; places.get(0), 0);
     assert_eq!(rt; places.get(1), 7);
     Ok(())
 }
