@@ -1,18 +1,20 @@
 // Tests of documents, with values worked by hand, and beside a plain program that cuts everything from nothing.
+ghost use Rattle.std.specs.Prelude.{◌<◌};
+
 use crate::{Change, Document, EditFault};
 use marker_chunker::cut_all;
 use record_text::{Records, is_record};
 use std::alloc::{AllocError, Global};
 
 /// One record more, where there is room.
-fn push(records: &mut Records, bytes: &[u8]) -> Result<(), AllocError> {
+pub fn push(records: &mut Records, bytes: &[u8]) -> Result<(), AllocError> {
     if is_record(bytes) && records.len() < 4294967295 {
         records.push(bytes)?;
     }
     Ok(())
 }
 
-fn records(alloc: Global, items: &[&[u8]]) -> Result<Records, AllocError> {
+pub fn records(alloc: Global, items: &[&[u8]]) -> Result<Records, AllocError> {
     let mut records = Records::new(alloc);
     'items: for item in items {
         push(&mut records, item)?;
@@ -21,24 +23,25 @@ fn records(alloc: Global, items: &[&[u8]]) -> Result<Records, AllocError> {
 }
 
 /// Six records of 100 bytes `-` and the marker `n-`, so many times: each is a chunk of 609 bytes of text.
-fn blocks(alloc: Global, count: usize) -> Result<Records, AllocError> {
+pub fn blocks(alloc: Global, count: usize) -> Result<Records, AllocError> {
     let mut records = Records::new(alloc);
     let dashes = [b'-'; 100];
-    'blocks: for _ in 0..count {
-        'dashes: for _ in 0..6 {
+    'blocks: for i in 0..count.min(100000) * 7 {
+        if i % 7 == 6 {
+            push(&mut records, b"n-")?;
+        } else {
             push(&mut records, &dashes)?;
         }
-        push(&mut records, b"n-")?;
     }
     Ok(records)
 }
 
-fn change(first: usize, gone: usize, fresh: usize) -> Result<Change, EditFault> {
+pub fn change(first: usize, gone: usize, fresh: usize) -> Result<Change, EditFault> {
     Ok(Change { first, gone, fresh })
 }
 
 /// The text of the chunks, with a `|` behind each.
-fn spelled(alloc: Global, document: &Document) -> Result<Vec<u8>, AllocError> {
+pub fn spelled(alloc: Global, document: &Document) -> Result<Vec<u8>, AllocError> {
     let mut text = Vec::new(alloc);
     'chunks: for i in 0..document.chunk_count() {
         text.extend_from_slice(document.chunk(i).records().text())?;
@@ -51,28 +54,34 @@ fn spelled(alloc: Global, document: &Document) -> Result<Vec<u8>, AllocError> {
 fn an_edit_splices_records(rt: HostRuntime) -> Result<(), AllocError> {
     let alloc = rt.alloc();
     let mut document = Document::new(alloc);
-    let loaded = document.load(alloc, records(alloc, &[b"a", b"b"])?);
-    assert_eq!(rt; loaded, change(0, 0, 1));
-    let edited = document.edit(alloc, 2, 0, records(alloc, &[b"c"])?);
-    assert_eq!(rt; edited, change(0, 1, 1));
-    assert_eq!(rt; spelled(alloc, &document)?.as_slice(), b"a\nb\nc\n|".as_slice());
-    // One past the end, in each of its forms.
-    for (at, del) in [(3, 1), (4, 0), (0, 4), (4294967295, 4294967295)] {
-        let refused = document.edit(alloc, at, del, Records::new(alloc));
-        assert_eq!(rt; refused, Err(EditFault::TooMany));
-        assert_eq!(rt; document.record_count(), 3);
-        assert_eq!(rt; spelled(alloc, &document)?.as_slice(), b"a\nb\nc\n|".as_slice());
+    let start = records(alloc, &[b"a", b"b"])?;
+    assert_eq!(rt; document.load(alloc, start), change(0, 0, 1));
+    let c = [b"c".as_slice()];
+    let many = Err(EditFault::TooMany);
+    for (at, del, ins, want, text) in [
+        (
+            2,
+            0,
+            c.as_slice(),
+            change(0, 1, 1),
+            b"a\nb\nc\n|".as_slice(),
+        ),
+        // One past the end, in each of its forms.
+        (3, 1, &[], many, b"a\nb\nc\n|"),
+        (4, 0, &c, many, b"a\nb\nc\n|"),
+        (0, 4, &[], many, b"a\nb\nc\n|"),
+        (4294967295, 4294967295, &[], many, b"a\nb\nc\n|"),
+        // At the end, of nothing, and of everything.
+        (3, 0, &c, change(0, 1, 1), b"a\nb\nc\nc\n|"),
+        (4, 0, &[], change(0, 1, 1), b"a\nb\nc\nc\n|"),
+        (0, 0, &[], change(0, 0, 0), b"a\nb\nc\nc\n|"),
+        (0, 4, &[], change(0, 1, 0), b""),
+        (0, 0, &[], change(0, 0, 0), b""),
+        (0, 1, &[], many, b""),
+    ] {
+        assert_eq!(rt; document.edit(alloc, at, del, records(alloc, ins)?), want);
+        assert_eq!(rt; spelled(alloc, &document)?.as_slice(), text);
     }
-    // Of nothing, and of everything.
-    let none = document.edit(alloc, 3, 0, Records::new(alloc));
-    assert_eq!(rt; none, change(0, 1, 1));
-    assert_eq!(rt; document.text_len(), 6);
-    let all = document.edit(alloc, 0, 3, Records::new(alloc));
-    assert_eq!(rt; all, change(0, 1, 0));
-    assert_eq!(rt; document.chunk_count(), 0);
-    assert_eq!(rt; document.text_len(), 0);
-    let still = document.edit(alloc, 0, 0, Records::new(alloc));
-    assert_eq!(rt; still, change(0, 0, 0));
     Ok(())
 }
 
@@ -81,10 +90,10 @@ fn an_edit_cuts_where_nothing_would(rt: HostRuntime) -> Result<(), AllocError> {
     let alloc = rt.alloc();
     let long = [b'-'; 40000];
     let mut document = Document::new(alloc);
-    let loaded = document.load(alloc, records(alloc, &[&long, &long, b"x"])?);
-    assert_eq!(rt; loaded, change(0, 0, 2));
-    let edited = document.edit(alloc, 1, 1, records(alloc, &[b"y"])?);
-    assert_eq!(rt; edited, change(0, 2, 1));
+    let start = records(alloc, &[&long, &long, b"x"])?;
+    assert_eq!(rt; document.load(alloc, start), change(0, 0, 2));
+    let y = records(alloc, &[b"y"])?;
+    assert_eq!(rt; document.edit(alloc, 1, 1, y), change(0, 2, 1));
     assert_eq!(rt; document.chunk_count(), 1);
     assert_eq!(rt; document.record_count(), 3);
     assert_eq!(rt; document.text_len(), 40005);
@@ -95,41 +104,55 @@ fn an_edit_cuts_where_nothing_would(rt: HostRuntime) -> Result<(), AllocError> {
 fn a_load_replaces_all_chunks(rt: HostRuntime) -> Result<(), AllocError> {
     let alloc = rt.alloc();
     let mut document = Document::new(alloc);
-    assert_eq!(rt; document.load(alloc, blocks(alloc, 3)?), change(0, 0, 3));
     // The same chunks once more are all new ones.
-    assert_eq!(rt; document.load(alloc, blocks(alloc, 2)?), change(0, 3, 2));
-    assert_eq!(rt; document.text_len(), 1218);
-    assert_eq!(rt; document.record_count(), 14);
-    assert_eq!(rt; document.load(alloc, Records::new(alloc)), change(0, 2, 0));
-    assert_eq!(rt; document.chunk_count(), 0);
+    for (count, gone) in [(3, 0), (2, 3), (2, 2), (0, 2), (0, 0)] {
+        let loaded = document.load(alloc, blocks(alloc, count)?);
+        assert_eq!(rt; loaded, change(0, gone, count));
+        assert_eq!(rt; document.chunk_count(), count);
+        assert_eq!(rt; document.record_count(), 7 * count);
+        assert_eq!(rt; document.text_len(), 609 * count as u64);
+    }
     Ok(())
+}
+
+/// An edit beside other files of 268,435,456 bytes of text less 6, where the document has at most 6.
+fn edit_beside(
+    alloc: Global,
+    document: &mut Document,
+    at: u32,
+    del: u32,
+    ins: &Records,
+) -> Result<Change, EditFault> {
+    if document.text_len() > 6 {
+        return Err(EditFault::Mem);
+    }
+    document.edit_beside(alloc, at, del, ins, 268435450)
 }
 
 #[test]
 fn text_is_limited_with_that_of_other_files(rt: HostRuntime) -> Result<(), AllocError> {
     let alloc = rt.alloc();
-    // 268,435,456 less 6.
-    let others = 268435450;
     let mut document = Document::new(alloc);
-    let large = document.load_beside(alloc, &records(alloc, &[b"abc", b"de"])?, others);
-    assert_eq!(rt; large, Err(EditFault::WindowLarge));
+    let large = records(alloc, &[b"abc", b"de"])?;
+    let refused = document.load_beside(alloc, &large, 268435450);
+    assert_eq!(rt; refused, Err(EditFault::WindowLarge));
     assert_eq!(rt; document.record_count(), 0);
-    let fits = document.load_beside(alloc, &records(alloc, &[b"ab", b"cd"])?, others);
-    assert_eq!(rt; fits, change(0, 0, 1));
-    if document.text_len() <= 6 {
-        let more = document.edit_beside(alloc, 1, 0, &records(alloc, &[b""])?, others);
-        assert_eq!(rt; more, Err(EditFault::WindowLarge));
+    for (at, del, ins, want) in [
+        (0, 0, [b"ab".as_slice(), b"cd"].as_slice(), change(0, 0, 1)),
+        (1, 0, &[b""], Err(EditFault::WindowLarge)),
+        // What is replaced does not count, and too many goes first.
+        (1, 1, &[b"", b"e"], change(0, 1, 1)),
+        (3, 1, &[b"abc"], Err(EditFault::TooMany)),
+        (0, 3, &[b"abcdef"], Err(EditFault::WindowLarge)),
+        (0, 3, &[b"abcde"], change(0, 1, 1)),
+    ] {
+        let ins = records(alloc, ins)?;
+        assert_eq!(rt; edit_beside(alloc, &mut document, at, del, &ins), want);
     }
-    // What is replaced does not count, and too many goes first.
-    if document.text_len() <= 6 {
-        let same = document.edit_beside(alloc, 1, 1, &records(alloc, &[b"", b"e"])?, others);
-        assert_eq!(rt; same, change(0, 1, 1));
-    }
-    if document.text_len() <= 6 {
-        let both = document.edit_beside(alloc, 3, 1, &records(alloc, &[b"abc"])?, others);
-        assert_eq!(rt; both, Err(EditFault::TooMany));
-    }
-    assert_eq!(rt; spelled(alloc, &document)?.as_slice(), b"ab\n\ne\n|".as_slice());
+    assert_eq!(rt;
+        spelled(alloc, &document)?.as_slice(),
+        b"abcde\n|".as_slice()
+    );
     Ok(())
 }
 
@@ -152,21 +175,18 @@ fn an_edit_cuts_its_own_place_again_in_any_document(rt: HostRuntime) -> Result<(
     let alloc = rt.alloc();
     // Twenty records from the start of the middle block on: the block before is cut again, the marker that is left of the
     // third block has too little text before it, and the fourth ends where it did.
-    for (count, middle) in [(10, 5), (100, 50), (1000, 500)] {
+    for (count, at, middle) in [(10, 35, 5), (100, 350, 50), (1000, 3500, 500)] {
         let mut document = Document::new(alloc);
-        assert_eq!(rt; document.load(alloc, blocks(alloc, count)?), change(0, 0, count));
-        let mut twenty = Records::new(alloc);
-        'twenty: for _ in 0..20 {
-            push(&mut twenty, b"x")?;
-        }
-        let Ok(edited) = document.edit(alloc, 7 * middle as u32, 20, twenty) else {
+        let loaded = document.load(alloc, blocks(alloc, count)?);
+        assert_eq!(rt; loaded, change(0, 0, count));
+        let twenty = records(alloc, &[b"x".as_slice(); 20])?;
+        let Ok(edited) = document.edit(alloc, at, 20, twenty) else {
             return Err(AllocError);
         };
-        assert_eq!(rt; edited, Change { first: middle - 1, gone: 5, fresh: 2 });
+        assert_eq!(rt; Ok(edited), change(middle - 1, 5, 2));
         // Seven records of the block before, twenty, one marker and seven of the fourth block.
         assert_eq!(rt; cut_again(&document, &edited), (35, 609 + 40 + 3 + 609));
         assert_eq!(rt; document.chunk_count(), count - 3);
-        assert_eq!(rt; document.record_count(), 7 * count);
     }
     Ok(())
 }
@@ -200,15 +220,14 @@ impl Plain {
         ins: &Records,
     ) -> Result<Plain, AllocError> {
         let mut records = Records::new(alloc);
-        'kept: for i in 0..=self.records.len() {
-            if i == at {
-                'ins: for j in 0..ins.len() {
-                    push(&mut records, ins.get(j))?;
-                }
-            }
-            if i < self.records.len() && !(at <= i && i - at < del) {
-                push(&mut records, self.records.get(i))?;
-            }
+        'front: for i in 0..at.min(self.records.len()) {
+            push(&mut records, self.records.get(i))?;
+        }
+        'ins: for i in 0..ins.len() {
+            push(&mut records, ins.get(i))?;
+        }
+        'back: for i in at.saturating_add(del)..self.records.len() {
+            push(&mut records, self.records.get(i))?;
         }
         Plain::of(alloc, records)
     }
@@ -229,12 +248,11 @@ impl Plain {
 
     /// What the change from these chunks to those of `news` is, by trying each number of chunks that go.
     fn change(&self, at: usize, del: usize, ins: usize, news: &Plain) -> Option<Change> {
-        let mut first = 0;
-        'first: for end in &self.ends {
-            if at > 0 && *end < at {
-                first += 1;
-            }
-        }
+        let first = if at == 0 {
+            0
+        } else {
+            self.ends.partition_point(|end| *end < at)
+        };
         'gone: for last in first..=self.ends.len() {
             let old = reach(self.ends.as_slice(), last);
             if at.wrapping_add(del) <= old {
@@ -255,7 +273,7 @@ impl Plain {
 }
 
 /// The next draw of a linear congruential generator, below `bound`.
-fn draw(state: &mut u64, bound: u64) -> u64
+pub fn draw(state: &mut u64, bound: u64) -> u64
     requires { 0 < bound }
     ensures { result < bound }
 {
@@ -265,23 +283,35 @@ fn draw(state: &mut u64, bound: u64) -> u64
     (*state >> 33) % bound
 }
 
-/// Up to `most` records, many of them markers, some long.
-fn drawn(alloc: Global, state: &mut u64, most: u64) -> Result<Records, AllocError> {
+/// Fewer than `most` records, many of them markers, some long.
+pub fn drawn(alloc: Global, state: &mut u64, most: u64) -> Result<Records, AllocError>
+    requires { 0 < most }
+{
     let mut records = Records::new(alloc);
     let long = [b'-'; 30000];
     let dashes = [b'-'; 100];
-    let count = if most > 0 { draw(state, most) } else { 0 };
-    'records: for _ in 0..count {
-        let kind = draw(state, 40);
+    'records: for _ in 0..draw(state, most) {
         let size = draw(state, 100) as usize;
-        match kind {
+        match draw(state, 40) {
             0 => push(&mut records, &long)?,
             1 => push(&mut records, b"")?,
-            2 | 3 | 4 | 5 | 6 => push(&mut records, b"n-")?,
+            2..=6 => push(&mut records, b"n-")?,
             _ => push(&mut records, &dashes[..size])?,
         }
     }
     Ok(records)
+}
+
+/// A place and a number of records from there on, mostly few, in a document of so many records.
+fn drawn_place(state: &mut u64, count: usize, few: u64) -> (u32, u32)
+    requires { 0 < few }
+{
+    if count > 1000000 {
+        return (0, 0);
+    }
+    let at = draw(state, count as u64 + 1);
+    let del = draw(state, few).min(count as u64 - at);
+    (at as u32, del as u32)
 }
 
 #[test]
@@ -289,27 +319,26 @@ fn a_walk_of_edits_is_cut_as_from_nothing(rt: HostRuntime) -> Result<(), AllocEr
     let alloc = rt.alloc();
     let mut state = 2;
     let start = drawn(alloc, &mut state, 150)?;
-    let mut document = Document::new(alloc);
     let mut plain = Plain::of(alloc, start.copy(alloc)?)?;
+    let mut document = Document::new(alloc);
     assert_eq!(rt; document.load(alloc, start), change(0, 0, plain.ends.len()));
     for step in 0..100 {
-        let count = document.record_count() as u64;
-        let at = if count < 4294967295 { draw(&mut state, count + 1) } else { 0 };
-        // Mostly a few records go, at times many.
-        let reach = if step % 16 == 0 { 60 } else { 6 };
-        let del = draw(&mut state, reach).min(count.saturating_sub(at));
-        let ins = drawn(alloc, &mut state, reach)?;
+        let few = if step % 16 == 0 { 60 } else { 6 };
+        let (at, del) = drawn_place(&mut state, document.record_count(), few);
+        let ins = drawn(alloc, &mut state, few)?;
         let news = plain.spliced(alloc, at as usize, del as usize, &ins)?;
         let want = plain.change(at as usize, del as usize, ins.len(), &news);
-        let got = document.edit(alloc, at as u32, del as u32, ins);
-        assert_eq!(rt; got.ok(), want, "step {step}");
         assert_eq!(rt;
-            spelled(alloc, &document)?.as_slice(),
+            document.edit(alloc, at, del, ins).ok(),
+            want,
+            "step {step}"
+        );
+        let text = spelled(alloc, &document)?;
+        assert_eq!(rt;
+            text.as_slice(),
             news.spelled(alloc)?.as_slice(),
             "step {step}"
         );
-        assert_eq!(rt; document.record_count(), news.records.len());
-        assert_eq!(rt; document.text_len(), news.records.text_len());
         plain = news;
     }
     Ok(())
