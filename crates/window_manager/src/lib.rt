@@ -4,7 +4,9 @@
 #![tactic(auto)]
 
 mod fault;
+mod late_places;
 mod laws;
+mod records;
 
 pub use fault::WindowFault;
 pub use laws::same_without_files;
