@@ -1,2 +1,3 @@
 pub mod OneFile
 pub mod PlaceLaws
+pub mod TextLaws

@@ -1,6 +1,6 @@
 -- Rising places, gone over one by one.
 use Rattle.std.proofs.Common.{◌≡◌, ℕ, zero, suc, subst, ◌+◌, ◌-◌, ◌<◌, ◌≤◌, Bool, true, false, List, [], ◌∷◌, ◌++◌, length, take, get_or, refl, sym, ap, ◌∙◌, arith, append-nil, append_assoc}
-use Rattle.std.specs.Prelude.{All, nat_le, nat_lt, map}
+use Rattle.std.specs.Prelude.{cond, All, nat_le, nat_lt, map}
 use Rattle.std.specs.List.{filter}
 use Rattle.std.specs.List.Sorted.{IsStrictlyIncreasing}
 use Rattle.std.proofs.lemmas.Bool.Decides.{nat_tests}
@@ -81,3 +81,28 @@ pub all_front : (ps : List ℕ) (i p q : ℕ) → i < length ps → p ≡ get_or
 all_front ps i p q lt is all =
     let split : All (λ x. x < q) (take i ps ++ p ∷ []) = subst (λ (l : List ℕ). All (λ x. x < q) l) (more ps i p lt is) all in
     (all_left q (take i ps) (p ∷ []) split, all_last q (take i ps) p split)
+
+-- lowered places are below a lowered bound
+lower_one : (b : Bool) (by p n : ℕ) (rest : List ℕ) → (b ≡ true → p - by < n) → All (λ q. q < n) (map (λ q. q - by) rest) → All (λ q. q < n) (map (λ q. q - by) (cond b (p ∷ rest) rest))
+lower_one true by p n rest lt all = All-cons (λ q. q < n) (p - by) (map (λ q. q - by) rest) (lt refl) all
+lower_one false by p n rest lt all = all
+
+pub lowered_below : (by n m : ℕ) (ps : List ℕ) → m ≤ by + n → All (λ p. p < m) ps → All (λ q. q < n) (lowered by ps)
+lowered_below by n m [] le all = λ k d h. absurd (omega (arith, h))
+lowered_below by n m (p ∷ ps) le all =
+    let first : p < m = all 0 0 (omega arith) in
+    lower_one (nat_le by p) by p n (filter (λ q. nat_le by q) ps) (λ t. let ge : by ≤ p = grind (arith, nat_tests) in omega (arith, first, le, ge)) (lowered_below by n m ps le (All-tail (λ x. x < m) p ps all))
+
+-- one place more below a bound
+filter_one : (b : Bool) (p m : ℕ) (rest : List ℕ) → p < m → All (λ q. q < m) rest → All (λ q. q < m) (cond b (p ∷ rest) rest)
+filter_one true p m rest lt all = All-cons (λ q. q < m) p rest lt all
+filter_one false p m rest lt all = all
+
+filter_below : (test : ℕ → Bool) (m : ℕ) (ps : List ℕ) → All (λ p. p < m) ps → All (λ p. p < m) (filter test ps)
+filter_below test m [] all = all
+filter_below test m (p ∷ ps) all = filter_one (test p) p m (filter test ps) (all 0 0 (omega arith)) (filter_below test m ps (All-tail (λ x. x < m) p ps all))
+
+pub with_place_below : (m place : ℕ) (ps : List ℕ) → place < m → All (λ p. p < m) ps → All (λ p. p < m) (with_place place ps)
+with_place_below m place ps lt all =
+    All-append (λ p. p < m) (filter (λ p. nat_lt p place) ps) (place ∷ filter (λ p. nat_lt place p) ps) (filter_below (λ p. nat_lt p place) m ps all)
+        (All-cons (λ p. p < m) place (filter (λ p. nat_lt place p) ps) lt (filter_below (λ p. nat_lt place p) m ps all))

@@ -1,5 +1,5 @@
 -- A window of buckets, and what its calls promise.
-use Rattle.std.specs.Prelude.{◌≡◌, ◌≢◌, ℕ, ◌≤◌, Bool, List, length, Option, Result, Ok, Err}
+use Rattle.std.specs.Prelude.{◌≡◌, ◌≢◌, ℕ, ◌≤◌, Bool, ◌&&◌, nat_le, if◌then◌else◌, List, length, Option, Result, Ok, Err}
 use Rattle.std.specs.declared.option.Option.TheVariants.{Some, None}
 use Rattle.definitions.specs.Records.{text_of}
 use Rattle.marker_chunker.specs.Cuts.{joined}
@@ -7,7 +7,7 @@ use Rattle.record_text.specs.declared.kind.Kind.{Kind}
 use Rattle.record_text.specs.declared.kind.Kind.TheVariants as Kinds
 use Rattle.record_text.specs.declared.command.Command.{Command}
 use Rattle.record_text.specs.declared.shift.Shift.{Shift}
-use Rattle.window_manager.specs.Windows.{Leaf, WindowState, empty_window, window_after, refusal_of}
+use Rattle.window_manager.specs.Windows.{Leaf, WindowState, empty_window, window_after, is_circle, refusal_of}
 use Rattle.window_manager.specs.Slides.{Slid, not_slid, slid_after, slid_anew, FitsCount}
 use Rattle.window_manager.specs.declared.fault.WindowFault.{WindowFault}
 use Rattle.window_manager.specs.declared.fault.WindowFault.TheVariants.{Mem}
@@ -33,16 +33,20 @@ buckets_anew v = record { window = v.window; slid = slid_anew (length v.window.l
 abbrev pub text_size : List Leaf → ℕ
 text_size leaves = length (text_of (joined leaves))
 
+-- how many leaves leave at the front where a new one comes: the oldest of a circle that is full
+abbrev pub leaving : Kind → ℕ → ℕ → ℕ
+leaving kind places count = if is_circle kind && nat_le places count then 1 else 0
+
 -- what a window of buckets keeps
 pub record AreBuckets (kind : Kind) (places : ℕ) (leaves : List Leaf) (size : ℕ) (shift : Shift) : Type 0 where
-  pub kind : kind ≢ Kinds.Document
+  pub buckets : kind ≢ Kinds.Document
   pub some : 1 ≤ places
   pub few : places ≤ 4096
-  pub size : size ≡ text_size leaves
+  pub sized : size ≡ text_size leaves
   pub small : size ≤ 268435456
   pub count : length leaves ≤ 65536
   pub circle : kind ≡ Kinds.Circle → length leaves ≤ places
-  pub shift : FitsCount shift (length leaves)
+  pub fits : FitsCount shift (length leaves)
 
 -- a command was carried out, or refused with the window as it was: want of memory comes only where nothing refuses it
 abbrev pub Applied : (List ℕ → Bool) → BucketView → BucketView → Command → Result (Unit {0}) WindowFault → Type 0

@@ -3,10 +3,13 @@
 //! `specs/OlderRule.antt` is the rule without names of files.
 #![tactic(auto)]
 
+mod buckets;
 mod fault;
 mod late_places;
 mod laws;
+mod leaves;
 mod records;
+mod slide;
 
 pub use fault::WindowFault;
 pub use laws::same_without_files;
