@@ -8,7 +8,7 @@ use Rattle.marker_chunker.proofs.CutLaws.{joined_append}
 use Rattle.window_manager.specs.Windows.{Leaf, with_late}
 use Rattle.window_manager.specs.Buckets.{text_size}
 
-length_append : (a b : List ℕ) → length (a ++ b) ≡ length a + length b
+pub length_append : (a b : List ℕ) → length (a ++ b) ≡ length a + length b
 length_append a b = grind (arith, common_steps)
 
 pub text_append : (a b : List (List ℕ)) → length (text_of (a ++ b)) ≡ length (text_of a) + length (text_of b)

@@ -37,16 +37,20 @@ text_size leaves = length (text_of (joined leaves))
 abbrev pub leaving : Kind → ℕ → ℕ → ℕ
 leaving kind places count = if is_circle kind && nat_le places count then 1 else 0
 
--- what a window of buckets keeps
-pub record AreBuckets (kind : Kind) (places : ℕ) (leaves : List Leaf) (size : ℕ) (shift : Shift) : Type 0 where
-  pub buckets : kind ≢ Kinds.Document
-  pub some : 1 ≤ places
-  pub few : places ≤ 4096
-  pub sized : size ≡ text_size leaves
-  pub small : size ≤ 268435456
-  pub count : length leaves ≤ 65536
-  pub circle : kind ≡ Kinds.Circle → length leaves ≤ places
-  pub fits : FitsCount shift (length leaves)
+-- what holds of every window of buckets
+pub record IsOfBuckets (w : WindowState) : Type 0 where
+  pub buckets : w.kind ≢ Kinds.Document
+  pub some : 1 ≤ w.places
+  pub few : w.places ≤ 4096
+  pub small : text_size w.leaves ≤ 268435456
+  pub count : length w.leaves ≤ 65536
+  pub circle : w.kind ≡ Kinds.Circle → length w.leaves ≤ w.places
+
+-- what is kept beside the buckets: the size of their text, and how they changed
+pub record AreKept (w : WindowState) (size : ℕ) (shift : Shift) : Type 0 where
+  pub window : IsOfBuckets w
+  pub sized : size ≡ text_size w.leaves
+  pub fits : FitsCount shift (length w.leaves)
 
 -- a command was carried out, or refused with the window as it was: want of memory comes only where nothing refuses it
 abbrev pub Applied : (List ℕ → Bool) → BucketView → BucketView → Command → Result (Unit {0}) WindowFault → Type 0

@@ -1,5 +1,6 @@
 // The leaves of a window of buckets.
 ghost use Rattle.std.specs.Prelude.{◌≡◌, ◌≤◌, ◌<◌, ◌+◌, length, drop};
+ghost use Rattle.std.specs.VecDeque.{deque_capacity};
 ghost use Rattle.window_manager.specs.Windows.{is_circle};
 ghost use Rattle.window_manager.specs.Buckets.{leaving, text_size};
 
@@ -45,7 +46,8 @@ pub fn text_of_front(leaves: &VecDeque<Bundle>, n: usize) -> u64
 /// Lets the first leaves go.
 pub fn forget_front(leaves: &mut VecDeque<Bundle>, n: usize)
     requires { n ≤ length leaves.old.items }
-    ensures { leaves.new.items ≡ drop n leaves.old.items }
+    ensures items { leaves.new.items ≡ drop n leaves.old.items }
+    ensures room { deque_capacity leaves.new ≡ deque_capacity leaves.old }
 {
     'leaves: for _ in 0..n {
         match leaves.pop_front() {
