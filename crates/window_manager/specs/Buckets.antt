@@ -1,5 +1,5 @@
 -- A window of buckets, and what its calls promise.
-use Rattle.std.specs.Prelude.{◌≡◌, ◌≢◌, ℕ, ◌≤◌, Bool, ◌&&◌, nat_le, if◌then◌else◌, List, length, Option, Result, Ok, Err}
+use Rattle.std.specs.Prelude.{◌≡◌, ◌≢◌, ℕ, ◌≤◌, Bool, true, false, ◌&&◌, nat_le, if◌then◌else◌, List, length, Option, Result, Ok, Err}
 use Rattle.std.specs.declared.option.Option.TheVariants.{Some, None}
 use Rattle.definitions.specs.Records.{text_of}
 use Rattle.marker_chunker.specs.Cuts.{joined}
@@ -7,7 +7,7 @@ use Rattle.record_text.specs.declared.kind.Kind.{Kind}
 use Rattle.record_text.specs.declared.kind.Kind.TheVariants as Kinds
 use Rattle.record_text.specs.declared.command.Command.{Command}
 use Rattle.record_text.specs.declared.shift.Shift.{Shift}
-use Rattle.window_manager.specs.Windows.{Leaf, WindowState, empty_window, window_after, is_circle, refusal_of}
+use Rattle.window_manager.specs.Windows.{Leaf, WindowState, empty_window, window_after, has_command, asks_too_many, is_large, is_circle, refusal_of}
 use Rattle.window_manager.specs.Slides.{Slid, not_slid, slid_after, slid_anew, FitsCount}
 use Rattle.window_manager.specs.declared.fault.WindowFault.{WindowFault}
 use Rattle.window_manager.specs.declared.fault.WindowFault.TheVariants.{Mem}
@@ -51,6 +51,12 @@ pub record AreKept (w : WindowState) (size : ℕ) (shift : Shift) : Type 0 where
   pub window : IsOfBuckets w
   pub sized : size ≡ text_size w.leaves
   pub fits : FitsCount shift (length w.leaves)
+
+-- nothing refuses a command whose records are accepted
+pub record IsAllowed (w : WindowState) (c : Command) : Type 0 where
+  pub has : has_command w.kind c ≡ true
+  pub few : asks_too_many w c ≡ false
+  pub small : is_large (window_after w c) ≡ false
 
 -- a command was carried out, or refused with the window as it was: want of memory comes only where nothing refuses it
 abbrev pub Applied : (List ℕ → Bool) → BucketView → BucketView → Command → Result (Unit {0}) WindowFault → Type 0

@@ -4,7 +4,7 @@ ghost use Rattle.record_text.specs.declared.kind.Kind.TheVariants as Kinds;
 ghost use Rattle.record_text.specs.declared.command.Command.TheVariants.{Bucket, Drop, Late, Run};
 ghost use Rattle.window_manager.specs.Windows.{asks_too_many, is_circle, is_large, refusal_of, window_after};
 ghost use Rattle.window_manager.specs.Slides.{FitsCount, slide_of};
-ghost use Rattle.window_manager.specs.Buckets.{Applied, IsOfBuckets, buckets_after, buckets_anew, leaving, no_buckets, text_size};
+ghost use Rattle.window_manager.specs.Buckets.{Applied, IsAllowed, IsOfBuckets, buckets_after, buckets_anew, leaving, no_buckets, text_size};
 
 use crate::WindowFault;
 use crate::leaves::{forget_front, is_circle, leaving, takes_drop, takes_late, text_of_front};
@@ -232,8 +232,24 @@ impl BucketWindow {
         }
     }
 
-    /// Carries out a command. A bucket costs its own records, a late record its bucket's, a drop the buckets that go. A
-    /// refusal changes nothing.
+    /// Carries out a command that is not refused.
+    fn carry_out(&mut self, alloc: Global, c: Command) -> Result<(), AllocError>
+        requires allowed { IsAllowed self.old.window c }
+        requires accepted { self.old.slid.accepted < 2 ^ 63 }
+        ensures ok { OnOk result (self.new ≡ buckets_after self.old c) }
+        ensures err { OnErr result (self.new ≡ self.old) }
+    {
+        let _ = &self.kind;
+        match c {
+            Command::Bucket(records) => self.push(alloc, records),
+            Command::Drop(n) => self.forget(alloc, n),
+            Command::Late { place, more } => self.add_late(alloc, place, &more),
+            _other => unreachable!(),
+        }
+    }
+
+    /// Carries out a command. A bucket costs its own records, late records cost their bucket, and a drop costs the
+    /// buckets that go. A refusal changes nothing.
     pub fn apply<J: Job>(&mut self, alloc: Global, c: Command, job: &J) -> Result<(), WindowFault>
         requires accepted { self.old.slid.accepted < 2 ^ 63 }
         ensures { Applied (J.accepts (J.setting job.now)) self.old self.new c result }
@@ -241,13 +257,7 @@ impl BucketWindow {
         if let Some(fault) = self.refusal(&c, job) {
             return Err(fault);
         }
-        let done = match c {
-            Command::Bucket(records) => self.push(alloc, records),
-            Command::Drop(n) => self.forget(alloc, n),
-            Command::Late { place, more } => self.add_late(alloc, place, &more),
-            _ => unreachable!(),
-        };
-        match done {
+        match self.carry_out(alloc, c) {
             Ok(()) => Ok(()),
             Err(_) => Err(WindowFault::Mem),
         }
