@@ -2,3 +2,8 @@ pub mod Texts
 pub mod Cutting
 pub mod Reaches
 pub mod Splices
+pub mod Shelves
+pub mod Together
+pub mod Ends
+pub mod Refusals
+pub mod Changes

@@ -38,9 +38,9 @@ pub record IsChange (at del : ℕ) (ins : List (List ℕ)) (olds news : List (Li
   pub meets : reach (change.first + change.fresh) news + del ≡ reach (change.first + change.gone) olds + length ins
   pub least : (g q : ℕ) → g < change.gone → at + del ≤ reach (change.first + g) olds → reach q news + del ≡ reach (change.first + g) olds + length ins → ⊥
 
--- all old chunks became all new ones
-abbrev pub IsWhole : List (List (List ℕ)) → List (List (List ℕ)) → Change → Type 0
-IsWhole olds news change = (change.first ≡ 0) × (change.gone ≡ length olds) × (change.fresh ≡ length news)
+-- all old chunks became all new ones, where so many chunks of others stand before
+abbrev pub IsWhole : ℕ → List (List (List ℕ)) → List (List (List ℕ)) → Change → Type 0
+IsWhole before olds news change = (change.first ≡ before) × (change.gone ≡ length olds) × (change.fresh ≡ length news)
 
 -- none of the old chunks `from` to `last` begins where a new one does; the new records have `size` more than the old ones before
 abbrev pub NoMeeting : List (List (List ℕ)) → ℕ → ℕ → List (List (List ℕ)) → ℕ → Type 0

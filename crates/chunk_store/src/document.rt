@@ -180,7 +180,7 @@ impl Document {
         requires { others ≤ 268435456 }
         ensures answers { Answers ⊥ (268435456 < others + length (text_of records.now)) result }
         ensures ok { OnOk result (self.new ≡ chunks_of records.now) }
-        ensures change { IfOk result (IsWhole self.old self.new) }
+        ensures change { IfOk result (IsWhole 0 self.old self.new) }
         ensures err { OnErr result (self.new ≡ self.old) }
     {
         if records.text_len() > MOST_TEXT - others {
@@ -225,7 +225,7 @@ impl Document {
     pub fn load(&mut self, alloc: Global, records: Records) -> Result<Change, EditFault>
         ensures answers { Answers ⊥ (268435456 < length (text_of records)) result }
         ensures ok { OnOk result (self.new ≡ chunks_of records) }
-        ensures change { IfOk result (IsWhole self.old self.new) }
+        ensures change { IfOk result (IsWhole 0 self.old self.new) }
         ensures err { OnErr result (self.new ≡ self.old) }
     {
         self.load_beside(alloc, &records, 0)

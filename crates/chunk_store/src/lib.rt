@@ -8,10 +8,15 @@ mod change;
 mod chunk;
 mod cutter;
 mod document;
+#[cfg(test)]
+mod file_tests;
+mod files;
 mod places;
 mod recut;
+mod shelf;
 #[cfg(test)]
 mod tests;
 
 pub use change::{Change, EditFault};
 pub use document::Document;
+pub use files::Files;

@@ -1,11 +1,13 @@
 // Tests of documents, with values worked by hand, and beside a plain program that cuts everything from nothing.
+ghost use Rattle.std.specs.Prelude.{◌<◌};
+
 use crate::{Change, Document, EditFault};
 use marker_chunker::cut_all;
 use record_text::{Records, is_record};
 use std::alloc::{AllocError, Global};
 
 /// One record more, where there is room.
-fn push(records: &mut Records, bytes: &[u8]) -> Result<(), AllocError> {
+pub fn push(records: &mut Records, bytes: &[u8]) -> Result<(), AllocError> {
     if is_record(bytes) && records.len() < 4294967295 {
         records.push(bytes)?;
     }
@@ -21,7 +23,7 @@ fn records(alloc: Global, items: &[&[u8]]) -> Result<Records, AllocError> {
 }
 
 /// Six records of 100 bytes `-` and the marker `n-`, so many times: each is a chunk of 609 bytes of text.
-fn blocks(alloc: Global, count: usize) -> Result<Records, AllocError> {
+pub fn blocks(alloc: Global, count: usize) -> Result<Records, AllocError> {
     let mut records = Records::new(alloc);
     let dashes = [b'-'; 100];
     'blocks: for _ in 0..count {
@@ -33,7 +35,7 @@ fn blocks(alloc: Global, count: usize) -> Result<Records, AllocError> {
     Ok(records)
 }
 
-fn change(first: usize, gone: usize, fresh: usize) -> Result<Change, EditFault> {
+pub fn change(first: usize, gone: usize, fresh: usize) -> Result<Change, EditFault> {
     Ok(Change { first, gone, fresh })
 }
 
@@ -55,13 +57,19 @@ fn an_edit_splices_records(rt: HostRuntime) -> Result<(), AllocError> {
     assert_eq!(rt; loaded, change(0, 0, 1));
     let edited = document.edit(alloc, 2, 0, records(alloc, &[b"c"])?);
     assert_eq!(rt; edited, change(0, 1, 1));
-    assert_eq!(rt; spelled(alloc, &document)?.as_slice(), b"a\nb\nc\n|".as_slice());
+    assert_eq!(rt;
+        spelled(alloc, &document)?.as_slice(),
+        b"a\nb\nc\n|".as_slice()
+    );
     // One past the end, in each of its forms.
     for (at, del) in [(3, 1), (4, 0), (0, 4), (4294967295, 4294967295)] {
         let refused = document.edit(alloc, at, del, Records::new(alloc));
         assert_eq!(rt; refused, Err(EditFault::TooMany));
         assert_eq!(rt; document.record_count(), 3);
-        assert_eq!(rt; spelled(alloc, &document)?.as_slice(), b"a\nb\nc\n|".as_slice());
+        assert_eq!(rt;
+            spelled(alloc, &document)?.as_slice(),
+            b"a\nb\nc\n|".as_slice()
+        );
     }
     // Of nothing, and of everything.
     let none = document.edit(alloc, 3, 0, Records::new(alloc));
@@ -129,7 +137,10 @@ fn text_is_limited_with_that_of_other_files(rt: HostRuntime) -> Result<(), Alloc
         let both = document.edit_beside(alloc, 3, 1, &records(alloc, &[b"abc"])?, others);
         assert_eq!(rt; both, Err(EditFault::TooMany));
     }
-    assert_eq!(rt; spelled(alloc, &document)?.as_slice(), b"ab\n\ne\n|".as_slice());
+    assert_eq!(rt;
+        spelled(alloc, &document)?.as_slice(),
+        b"ab\n\ne\n|".as_slice()
+    );
     Ok(())
 }
 
@@ -154,7 +165,10 @@ fn an_edit_cuts_its_own_place_again_in_any_document(rt: HostRuntime) -> Result<(
     // third block has too little text before it, and the fourth ends where it did.
     for (count, middle) in [(10, 5), (100, 50), (1000, 500)] {
         let mut document = Document::new(alloc);
-        assert_eq!(rt; document.load(alloc, blocks(alloc, count)?), change(0, 0, count));
+        assert_eq!(rt;
+            document.load(alloc, blocks(alloc, count)?),
+            change(0, 0, count)
+        );
         let mut twenty = Records::new(alloc);
         'twenty: for _ in 0..20 {
             push(&mut twenty, b"x")?;
@@ -162,7 +176,14 @@ fn an_edit_cuts_its_own_place_again_in_any_document(rt: HostRuntime) -> Result<(
         let Ok(edited) = document.edit(alloc, 7 * middle as u32, 20, twenty) else {
             return Err(AllocError);
         };
-        assert_eq!(rt; edited, Change { first: middle - 1, gone: 5, fresh: 2 });
+        assert_eq!(rt;
+            edited,
+            Change {
+                first: middle - 1,
+                gone: 5,
+                fresh: 2
+            }
+        );
         // Seven records of the block before, twenty, one marker and seven of the fourth block.
         assert_eq!(rt; cut_again(&document, &edited), (35, 609 + 40 + 3 + 609));
         assert_eq!(rt; document.chunk_count(), count - 3);
@@ -229,12 +250,11 @@ impl Plain {
 
     /// What the change from these chunks to those of `news` is, by trying each number of chunks that go.
     fn change(&self, at: usize, del: usize, ins: usize, news: &Plain) -> Option<Change> {
-        let mut first = 0;
-        'first: for end in &self.ends {
-            if at > 0 && *end < at {
-                first += 1;
-            }
-        }
+        let first = if at == 0 {
+            0
+        } else {
+            self.ends.partition_point(|end| *end < at)
+        };
         'gone: for last in first..=self.ends.len() {
             let old = reach(self.ends.as_slice(), last);
             if at.wrapping_add(del) <= old {
@@ -255,7 +275,7 @@ impl Plain {
 }
 
 /// The next draw of a linear congruential generator, below `bound`.
-fn draw(state: &mut u64, bound: u64) -> u64
+pub fn draw(state: &mut u64, bound: u64) -> u64
     requires { 0 < bound }
     ensures { result < bound }
 {
@@ -266,7 +286,7 @@ fn draw(state: &mut u64, bound: u64) -> u64
 }
 
 /// Up to `most` records, many of them markers, some long.
-fn drawn(alloc: Global, state: &mut u64, most: u64) -> Result<Records, AllocError> {
+pub fn drawn(alloc: Global, state: &mut u64, most: u64) -> Result<Records, AllocError> {
     let mut records = Records::new(alloc);
     let long = [b'-'; 30000];
     let dashes = [b'-'; 100];
@@ -294,7 +314,11 @@ fn a_walk_of_edits_is_cut_as_from_nothing(rt: HostRuntime) -> Result<(), AllocEr
     assert_eq!(rt; document.load(alloc, start), change(0, 0, plain.ends.len()));
     for step in 0..100 {
         let count = document.record_count() as u64;
-        let at = if count < 4294967295 { draw(&mut state, count + 1) } else { 0 };
+        let at = if count < 4294967295 {
+            draw(&mut state, count + 1)
+        } else {
+            0
+        };
         // Mostly a few records go, at times many.
         let reach = if step % 16 == 0 { 60 } else { 6 };
         let del = draw(&mut state, reach).min(count.saturating_sub(at));
