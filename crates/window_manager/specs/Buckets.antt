@@ -1,8 +1,7 @@
 -- A window of buckets, and what its calls promise.
 use Rattle.std.specs.Prelude.{◌≡◌, ◌≢◌, ℕ, ◌≤◌, Bool, true, false, ◌&&◌, nat_le, if◌then◌else◌, List, length, Option, Result, Ok, Err}
 use Rattle.std.specs.declared.option.Option.TheVariants.{Some, None}
-use Rattle.definitions.specs.Records.{text_of}
-use Rattle.marker_chunker.specs.Cuts.{joined}
+pub use Rattle.chunk_store.specs.Documents.{text_size}
 use Rattle.record_text.specs.declared.kind.Kind.{Kind}
 use Rattle.record_text.specs.declared.kind.Kind.TheVariants as Kinds
 use Rattle.record_text.specs.declared.command.Command.{Command}
@@ -28,10 +27,6 @@ buckets_after v c = record { window = window_after v.window c; slid = slid_after
 -- after a run
 abbrev pub buckets_anew : BucketView → BucketView
 buckets_anew v = record { window = v.window; slid = slid_anew (length v.window.leaves) v.slid }
-
--- how many bytes of text these leaves have
-abbrev pub text_size : List Leaf → ℕ
-text_size leaves = length (text_of (joined leaves))
 
 -- how many leaves leave at the front where a new one comes: the oldest of a circle that is full
 abbrev pub leaving : Kind → ℕ → ℕ → ℕ
