@@ -1,16 +1,16 @@
 // A window over an edited document in files.
-ghost use Rattle.std.specs.Prelude.{◌≡◌, ◌<◌, [], false, None, length, slice_index_or};
+ghost use Rattle.std.specs.Prelude.{◌≡◌, ◌<◌, [], false, None, OnOk, OnErr, length, slice_index_or};
 ghost use Rattle.record_text.specs.declared.command.Command.TheVariants.{Edit, File, Load, Remove};
-ghost use Rattle.window_manager.specs.Windows.{first_refused, is_one_too_many, record_refusal, refusal_of};
-ghost use Rattle.window_manager.specs.Splices.{Edits, FitsSplice, IsAfter, document_anew, no_document};
+ghost use Rattle.window_manager.specs.Windows.{asks_too_many, first_refused, is_large, is_one_too_many, record_refusal, window_after};
+ghost use Rattle.window_manager.specs.Splices.{Carried, FitsSplice, IsAfter, document_anew, fault_of, no_document};
 
 use crate::WindowFault;
 use crate::records::first_refused_of;
 use crate::splice::splice_on;
-use chunk_store::{Change, EditFault, Files};
+use chunk_store::{EditFault, Files};
 use job_laws::Job;
 use record_text::{Bundle, Name, Records, Shift};
-use std::alloc::Global;
+use std::alloc::{AllocError, Global};
 use std::marker::Model;
 
 /// How many files may have records.
@@ -47,6 +47,17 @@ fn record_fault<J: Job>(job: &J, records: &Records) -> Option<WindowFault>
             index: index as u32,
         }),
         None => None,
+    }
+}
+
+/// The refusal of an edit or a load.
+fn fault_of(fault: EditFault) -> WindowFault
+    ensures { result ≡ fault_of fault }
+{
+    match fault {
+        EditFault::TooMany => WindowFault::TooMany,
+        EditFault::WindowLarge => WindowFault::WindowLarge,
+        EditFault::Mem => WindowFault::Mem,
     }
 }
 
@@ -112,12 +123,54 @@ impl DocumentWindow {
     }
 
     /// Another file is the current one.
-    pub fn select(&mut self, alloc: Global, name: &Name) -> Result<(), WindowFault>
-        ensures { Edits None self.old self.new (File name.now) result }
+    fn select(&mut self, alloc: Global, name: &Name) -> Result<(), AllocError>
+        ensures ok { OnOk result (IsAfter self.old self.new (File name.now)) }
+        ensures err { OnErr result (self.new ≡ self.old) }
     {
-        match self.files.select(alloc, name) {
-            Ok(()) => Ok(()),
-            Err(_) => Err(WindowFault::Mem),
-        }
+        self.files.select(alloc, name)
+    }
+
+    /// A file goes.
+    fn remove(&mut self, name: &Name)
+        ensures { IsAfter self.old self.new (Remove name.now) }
+    {
+        let old = self.files.chunk_count();
+        let change = self.files.remove(name);
+        let new = self.files.chunk_count();
+        splice_on(&mut self.shift, self.stood, old, new, change);
+    }
+
+    /// From the record at a place of the current file on, `del` records become others.
+    fn edit(&mut self, alloc: Global, at: u32, del: u32, ins: Records) -> Result<(), WindowFault>
+        requires { asks_too_many self.old.window (Edit at del ins) ≡ false }
+        ensures ok { OnOk result (IsAfter self.old self.new (Edit at del ins)) }
+        ensures err { OnErr result (self.new ≡ self.old) }
+        ensures carried { Carried (is_large (window_after self.old.window (Edit at del ins))) result }
+    {
+        let old = self.files.chunk_count();
+        let change = match self.files.edit(alloc, at, del, ins) {
+            Ok(change) => change,
+            Err(fault) => return Err(fault_of(fault)),
+        };
+        let new = self.files.chunk_count();
+        splice_on(&mut self.shift, self.stood, old, new, change);
+        Ok(())
+    }
+
+    /// The current file becomes these records.
+    fn load(&mut self, alloc: Global, records: Records) -> Result<(), WindowFault>
+        requires { asks_too_many self.old.window (Load records) ≡ false }
+        ensures ok { OnOk result (IsAfter self.old self.new (Load records)) }
+        ensures err { OnErr result (self.new ≡ self.old) }
+        ensures carried { Carried (is_large (window_after self.old.window (Load records))) result }
+    {
+        let old = self.files.chunk_count();
+        let change = match self.files.load(alloc, records) {
+            Ok(change) => change,
+            Err(fault) => return Err(fault_of(fault)),
+        };
+        let new = self.files.chunk_count();
+        splice_on(&mut self.shift, self.stood, old, new, change);
+        Ok(())
     }
 }
