@@ -46,15 +46,15 @@ pub on_ok : {T E P Q : Type 0} (r : Result T E) → (P → Q) → OnOk r P → O
 on_ok (Ok x) f p = f p
 on_ok (Err e) f p = p
 
-abbrev IsNoneOf : Option WindowFault → Type 0
+abbrev pub IsNoneOf : Option WindowFault → Type 0
 IsNoneOf None = Unit {0}
 IsNoneOf (Some f) = ⊥
 
-not_none : (f : WindowFault) → None ≡ Some f → ⊥
+pub not_none : (f : WindowFault) → None ≡ Some f → ⊥
 not_none f e = subst IsNoneOf e tt
 
 -- the refusals of a command by their tests: it is there, it asks for too many, a record, the text
-abbrev by_tests : Bool → Bool → Option ℕ → Bool → Option WindowFault
+abbrev pub by_tests : Bool → Bool → Option ℕ → Bool → Option WindowFault
 by_tests h m r l = if not h then Some NotHere else if m then Some TooMany else record_refusal r l
 
 early_some : (h m : Bool) (r : Option ℕ) (l : Bool) (f : WindowFault) → by_tests h m r false ≡ Some f → by_tests h m r l ≡ Some f
@@ -77,7 +77,7 @@ module _ (accepts : List ℕ → Bool) (w : WindowState) (c : Command) where
   pub allowed : early_refusal accepts w c ≡ None → (has_command w.kind c ≡ true) × (asks_too_many w c ≡ false) × (refusal_of accepts w c ≡ (if is_large (window_after w c) then Some WindowLarge else None))
   allowed e = early_none (has_command w.kind c) (asks_too_many w c) (first_refused accepts (brought c)) (is_large (window_after w c)) e
 
-abbrev IsTrueTest : Bool → Type 0
+abbrev pub IsTrueTest : Bool → Type 0
 IsTrueTest true = Unit {0}
 IsTrueTest false = ⊥
 

@@ -86,10 +86,10 @@ module _ (accepts : List ℕ → Bool) (places : ℕ) (rs : List (List ℕ)) whe
   edit_refusal : (at del : ℕ) (ins : List (List ℕ)) → refusal_of accepts (document places rs) (Edit at del ins) ≡ older_refusal accepts (older Kinds.Document places (chunks_of rs)) (Edit at del ins)
   edit_refusal at del ins =
       let many : asks_too_many (document places rs) (Edit at del ins) ≡ nat_lt (length (joined (chunks_of rs))) (at + del) =
-          or_false (nat_lt (length (current_records (document places rs))) (at + del)) (is_one_too_many (document places rs) ins) (few places rs ins)
-          ∙ ap (λ (l : List (List ℕ)). nat_lt (length l) (at + del)) (one_records rs ∙ sym (joined_chunks rs)) in
+      or_false (nat_lt (length (current_records (document places rs))) (at + del)) (is_one_too_many (document places rs) ins) (few places rs ins)
+      ∙ ap (λ (l : List (List ℕ)). nat_lt (length l) (at + del)) (one_records rs ∙ sym (joined_chunks rs)) in
       let size : is_large (window_after (document places rs) (Edit at del ins)) ≡ large (chunks_of (spliced at del ins (joined (chunks_of rs)))) =
-          ap is_large (edit_after at del ins) ∙ ap (λ (l : List (List ℕ)). large (chunks_of (spliced at del ins l))) (sym (joined_chunks rs)) in
+      ap is_large (edit_after at del ins) ∙ ap (λ (l : List (List ℕ)). large (chunks_of (spliced at del ins l))) (sym (joined_chunks rs)) in
       same_refusal (asks_too_many (document places rs) (Edit at del ins)) (nat_lt (length (joined (chunks_of rs))) (at + del)) (first_refused accepts ins) (is_large (window_after (document places rs) (Edit at del ins))) (large (chunks_of (spliced at del ins (joined (chunks_of rs))))) many size
 
   load_refusal : (more : List (List ℕ)) → refusal_of accepts (document places rs) (Load more) ≡ older_refusal accepts (older Kinds.Document places (chunks_of rs)) (Load more)

@@ -13,6 +13,8 @@ mod leaves;
 mod records;
 mod slide;
 mod splice;
+#[cfg(test)]
+mod tests;
 mod window;
 
 pub use fault::WindowFault;

@@ -53,8 +53,8 @@ returns-clause-ok c =
     let count : c.len.result ≡ length leaves = search rules in
     let some : more ≢ [] = search rules in
     let slid : slid_by c.mark_late.new.shift (length (with_late place more leaves)) ≡ slid_after w (Late place more) (slid_by b.shift (length leaves)) =
-        ap (slid_by c.mark_late.new.shift) (count_late place more leaves)
-        ∙ subst (λ (n : ℕ). slid_by c.mark_late.new.shift n ≡ late_slid (slid_by b.shift n) n place) count c.in_ok-mark_late.ensures.slid
-        ∙ marked w (slid_by b.shift (length leaves)) place more some in
+    ap (slid_by c.mark_late.new.shift) (count_late place more leaves)
+    ∙ subst (λ (n : ℕ). slid_by c.mark_late.new.shift n ≡ late_slid (slid_by b.shift n) n place) count c.in_ok-mark_late.ensures.slid
+    ∙ marked w (slid_by b.shift (length leaves)) place more some in
     (λ i. record { window = record w { leaves = items i }; slid = (ap (λ (l : List Leaf). slid_by c.mark_late.new.shift (length l)) items ∙ slid) i })
     ∙ ap (λ (v : BucketView). buckets_after v (Late place more)) c.self.view_is
