@@ -32,6 +32,7 @@ module _ (places stood : ℕ) (shift : Shift) (old new : List NamedFile × List 
     stood = refl;
     change = record { first = 0; gone = 0; fresh = 0 };
     changes = (refl, refl);
+    spliced = record { within = omega arith; fits = omega arith; before = refl; behind = refl };
     splice = splice_still stood (length (all_chunks old.0)) (length (all_chunks old.0)) shift;
   }
 

@@ -5,3 +5,4 @@ pub mod BucketLaws
 pub mod DocumentLaws
 pub mod ViewLaws
 pub mod StepLaws
+pub mod JoinLaws

@@ -66,6 +66,7 @@ module _ (accepts : List ℕ → Bool) (c : Command) where
       slid = ap (λ (v : BucketView). v.slid) a.1;
       change = record { first = 0; gone = 0; fresh = 0 };
       changes = no_change old.window old.window.kind c is (has accepts old.window c a.0);
+      spliced = λ document. absurd (is document);
       splice = refl;
     },
   )
@@ -84,6 +85,7 @@ module _ (accepts : List ℕ → Bool) (c : Command) where
           slid = (λ i. record { accepted = 0; stood = a.1.stood i; fresh = 0; late = [] }) ∙ no_slide old.window c (record { accepted = 0; stood = old.stood; fresh = 0; late = [] }) here;
           change = a.1.change;
           changes = a.1.changes;
+          spliced = λ document. a.1.spliced;
           splice = a.1.splice;
         },
       )

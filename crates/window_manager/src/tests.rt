@@ -95,7 +95,8 @@ fn records_of(alloc: Global, bytes: &[u8]) -> Result<Records, AllocError> {
     let mut records = Records::new(alloc);
     'bytes: for b in bytes {
         let one = [*b];
-        let bytes = if *b == b'_' { &one[..0] } else { &one[..] };
+        let len = if *b == b'_' { 0 } else { 1 };
+        let bytes = &one[..len];
         if is_record(bytes) && records.len() < 1000 {
             records.push(bytes)?;
         }
