@@ -1,6 +1,6 @@
 -- Windows of buckets before and after a command.
-use Rattle.std.proofs.Common.{◌≡◌, ◌≢◌, ℕ, zero, suc, ◌+◌, ◌-◌, ◌<◌, ◌≤◌, Bool, true, false, List, [], ◌∷◌, ◌++◌, length, take, drop, get_or, refl, sym, ap, ◌∙◌, subst, arith, length-drop}
-use Rattle.std.specs.Prelude.{not, ◌&&◌, nat_le, nat_lt, if◌then◌else◌, Option}
+use Rattle.std.proofs.Common.{◌≡◌, ◌≢◌, ℕ, ◌+◌, ◌-◌, ◌<◌, ◌≤◌, Bool, true, false, List, [], ◌∷◌, ◌++◌, length, drop, get_or, refl, sym, ap, ◌∙◌, subst, arith, length-drop}
+use Rattle.std.specs.Prelude.{not, ◌&&◌, nat_le, nat_lt, if◌then◌else◌}
 use Rattle.std.specs.declared.option.Option.TheVariants.{Some, None}
 use Rattle.std.proofs.lemmas.Bool.Decides.{nat_tests}
 use Rattle.definitions.specs.Records.{text_of}
@@ -8,9 +8,8 @@ use Rattle.record_text.specs.declared.kind.Kind.{Kind}
 use Rattle.record_text.specs.declared.kind.Kind.TheVariants as Kinds
 use Rattle.record_text.specs.declared.command.Command.{Command}
 use Rattle.record_text.specs.declared.command.Command.TheVariants.{Bucket, Drop, Late, File, Remove, Edit, Load, Run}
-use Rattle.record_text.specs.declared.shift.Shift.{Shift}
 use Rattle.window_manager.specs.Windows.{Leaf, WindowState, has_command, is_circle, last_of, with_leaf, with_late, asks_too_many, is_large, window_after, refusal_of, record_refusal, first_refused, brought}
-use Rattle.window_manager.specs.Slides.{FitsCount, Slid, slid_after, late_after, with_place}
+use Rattle.window_manager.specs.Slides.{Slid, slid_after, late_after, with_place}
 use Rattle.window_manager.specs.Buckets.{BucketView, IsOfBuckets, buckets_after, leaving, text_size}
 use Rattle.window_manager.specs.declared.fault.WindowFault.TheVariants.{NotHere, TooMany}
 use Rattle.window_manager.proofs.TextLaws.{size_append, size_cut, size_one, size_late, size_part, count_late, count_size, late_nothing}

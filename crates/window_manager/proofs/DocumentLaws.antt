@@ -1,12 +1,10 @@
 -- Documents before and after a command.
-use Rattle.std.proofs.Common.{◌≡◌, ◌≢◌, ℕ, ◌+◌, ◌-◌, ◌<◌, ◌≤◌, ◌⊎◌, inl, inr, Bool, true, false, List, [], ◌∷◌, ◌++◌, length, take, drop, refl, sym, ap, ◌∙◌, subst, arith, length-drop}
+use Rattle.std.proofs.Common.{◌≡◌, ◌≢◌, ℕ, ◌+◌, Bool, true, false, List, length, refl, sym, ap, subst, arith, length-drop}
 use Rattle.std.specs.Prelude.{Option, Result, Ok, Err, OnOk, not, if◌then◌else◌}
 use Rattle.std.specs.declared.option.Option.TheVariants.{Some, None}
-use Rattle.std.proofs.lemmas.Bool.Decides.{nat_tests}
-use Rattle.marker_chunker.specs.Cuts.{chunks_of, joined}
 use Rattle.chunk_store.specs.declared.change.Change.{Change}
-use Rattle.chunk_store.specs.Documents.{IsSplice, text_size}
-use Rattle.chunk_store.specs.Files.{File as NamedFile, IsEditOf, IsLoadOf, IsOneTooMany, all_chunks, edited, file_at, with_file}
+use Rattle.chunk_store.specs.Documents.{IsSplice}
+use Rattle.chunk_store.specs.Files.{File as NamedFile, all_chunks}
 use Rattle.record_text.specs.declared.kind.Kind.TheVariants as Kinds
 use Rattle.record_text.specs.declared.command.Command.{Command}
 use Rattle.record_text.specs.declared.command.Command.TheVariants.{Bucket, Drop, Late, File, Remove, Edit, Load, Run}

@@ -4,5 +4,4 @@ pub mod TextLaws
 pub mod BucketLaws
 pub mod DocumentLaws
 pub mod ViewLaws
-pub mod StepLaws
 pub mod JoinLaws

@@ -1,7 +1,7 @@
 -- A window whose commands name no file has one file at most, the one of the empty name.
-use Rattle.std.proofs.Common.{◌≡◌, ℕ, ◌+◌, Bool, true, false, List, [], ◌∷◌, ◌++◌, length, refl, sym, ap, ◌∙◌, arith, append-nil}
-use Rattle.std.specs.Prelude.{if◌then◌else◌, All, Result, Ok, Err, Option, nat_le, nat_lt, ◌==◌, ◌&&◌, ◌||◌, take, drop}
-use Rattle.std.specs.declared.option.Option.TheVariants.{Some, None}
+use Rattle.std.proofs.Common.{◌≡◌, ℕ, ◌+◌, Bool, true, false, List, [], ◌∷◌, length, refl, sym, ap, ◌∙◌, arith, append-nil}
+use Rattle.std.specs.Prelude.{if◌then◌else◌, All, Option, nat_le, nat_lt, ◌==◌, ◌&&◌, ◌||◌, drop}
+use Rattle.std.specs.declared.option.Option.TheVariants.{Some}
 use Rattle.std.proofs.lemmas.List.Elements.{All-tail}
 use Rattle.definitions.specs.Records.{text_of}
 use Rattle.marker_chunker.specs.Cuts.{chunks_of, joined}
@@ -12,9 +12,8 @@ use Rattle.record_text.specs.declared.kind.Kind.{Kind}
 use Rattle.record_text.specs.declared.kind.Kind.TheVariants as Kinds
 use Rattle.record_text.specs.declared.command.Command.{Command}
 use Rattle.record_text.specs.declared.command.Command.TheVariants.{Bucket, Drop, Late, File, Remove, Edit, Load, Run}
-use Rattle.window_manager.specs.Windows.{Leaf, WindowState, empty_window, with_leaf, with_late, window_after, current_records, with_current, refusal_of, asks_too_many, is_one_too_many, is_large, record_refusal, first_refused}
+use Rattle.window_manager.specs.Windows.{Leaf, WindowState, with_leaf, with_late, window_after, current_records, with_current, refusal_of, asks_too_many, is_one_too_many, is_large, record_refusal, first_refused}
 use Rattle.window_manager.specs.OlderRule.{OlderState, older_after, older_refusal, unless_refused, leaves_after, older_leaves_after, NamesNoFile, SameWithoutFiles}
-use Rattle.window_manager.specs.declared.fault.WindowFault.{WindowFault}
 use Rattle.window_manager.specs.declared.fault.WindowFault.TheVariants.{TooMany}
 
 -- a window that is no document

@@ -1,7 +1,7 @@
 -- A window of any kind, by what it is made of.
-use Rattle.std.proofs.Common.{◌≡◌, ◌≢◌, ℕ, Bool, true, false, List, [], length, refl, sym, ap, ◌∙◌, subst}
+use Rattle.std.proofs.Common.{◌≡◌, ◌≢◌, ℕ, Bool, true, false, List, [], refl, sym, ap, ◌∙◌, subst}
 use Rattle.std.specs.Prelude.{Option, Result, Ok, Err}
-use Rattle.std.specs.declared.option.Option.TheVariants.{Some, None}
+use Rattle.std.specs.declared.option.Option.TheVariants.{None}
 use Rattle.record_text.specs.declared.command.Command.{Command}
 use Rattle.record_text.specs.declared.command.Command.TheVariants.{Bucket, Drop, Late, File, Remove, Edit, Load, Run}
 use Rattle.record_text.specs.declared.kind.Kind.{Kind}
@@ -10,7 +10,7 @@ use Rattle.window_manager.specs.Windows.{WindowState, asks_too_many, brought, fi
 use Rattle.window_manager.specs.Slides.{Slid, slid_after}
 use Rattle.window_manager.specs.Buckets.{Applied, BucketView}
 use Rattle.window_manager.specs.Splices.{DocumentView, Edits, IsChangeOf}
-use Rattle.window_manager.specs.Views.{Done, IsDone, WindowView, view_of}
+use Rattle.window_manager.specs.Views.{Done, WindowView, view_of}
 use Rattle.window_manager.specs.declared.fault.WindowFault.{WindowFault}
 use Rattle.window_manager.specs.declared.fault.WindowFault.TheVariants.{NotHere, TooMany, BadRecord, WindowLarge, Mem}
 use Rattle.window_manager.specs.declared.held.Held.{Held}

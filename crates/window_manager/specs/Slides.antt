@@ -1,8 +1,8 @@
 -- How the buckets of a window changed since its last run.
-use Rattle.std.specs.Prelude.{◌≡◌, ℕ, ◌+◌, ◌-◌, ◌<◌, ◌≤◌, nat_le, nat_lt, min, if◌then◌else◌, List, [], ◌∷◌, ◌++◌, length, map, drop, All}
+use Rattle.std.specs.Prelude.{◌≡◌, ℕ, ◌+◌, ◌-◌, ◌<◌, ◌≤◌, nat_le, nat_lt, min, if◌then◌else◌, List, [], ◌∷◌, ◌++◌, length, map, All}
 use Rattle.std.specs.List.{filter}
 use Rattle.record_text.specs.declared.command.Command.{Command}
-use Rattle.record_text.specs.declared.command.Command.TheVariants.{Bucket, Drop, Late, File, Remove, Edit, Load, Run}
+use Rattle.record_text.specs.declared.command.Command.TheVariants.{Bucket, Drop, Late}
 use Rattle.record_text.specs.declared.shift.Shift.{Shift}
 use Rattle.record_text.specs.declared.shift.Shift.TheVariants.{Slide, Splice}
 use Rattle.window_manager.specs.Windows.{WindowState, window_after}

@@ -1,5 +1,5 @@
 -- A window of any kind, and what its calls promise.
-use Rattle.std.specs.Prelude.{◌≡◌, ◌≢◌, ℕ, List, [], length, Option, Result, Ok, Err}
+use Rattle.std.specs.Prelude.{◌≡◌, ◌≢◌, ℕ, [], length, Option, Result, Ok, Err}
 use Rattle.std.specs.declared.option.Option.TheVariants.{Some, None}
 use Rattle.chunk_store.specs.declared.change.Change.{Change}
 use Rattle.chunk_store.specs.Documents.{IsSplice}

@@ -1,9 +1,8 @@
-use Rattle.std.proofs.Common.{rules, ◌≡◌, ◌≢◌, ◌≤◌, ◌<◌, ◌+◌, ◌-◌, ◌++◌, ◌∷◌, [], ℕ, List, false, length, get_or, refl, sym, ap, ◌∙◌, subst, arith}
+use Rattle.std.proofs.Common.{rules, ◌≡◌, ◌≢◌, ◌≤◌, ◌<◌, ◌+◌, ◌++◌, [], ℕ, List, false, length, sym, ap, ◌∙◌, subst, arith}
 use Rattle.std.specs.Prelude.{slice_set}
 use Rattle.record_text.specs.declared.command.Command.TheVariants.{Late}
-use Rattle.record_text.specs.declared.shift.Shift.{Shift}
 use Rattle.window_manager.specs.Windows.{Leaf, WindowState, is_large, window_after, with_late}
-use Rattle.window_manager.specs.Slides.{FitsCount, Slid, slid_by, slid_after}
+use Rattle.window_manager.specs.Slides.{FitsCount, slid_by, slid_after}
 use Rattle.window_manager.specs.Buckets.{AreKept, BucketView, buckets_after, text_size}
 use Rattle.window_manager.proofs.TextLaws.{size_late, count_late, late_set}
 use Rattle.window_manager.proofs.BucketLaws.{late_none, late_kept, few_records, late_slid, marked, not_large}
