@@ -1,0 +1,22 @@
+//! Windows: which records count for the next run, and how the leaves that hold them changed since the last one. Start at
+//! `specs/Windows.antt`, which says what a window holds, what each command makes of it and what it refuses;
+//! `specs/OlderRule.antt` is the rule without names of files.
+#![tactic(auto)]
+
+mod buckets;
+mod document;
+mod fault;
+mod held;
+mod late_places;
+mod laws;
+mod leaves;
+mod records;
+mod slide;
+mod splice;
+#[cfg(test)]
+mod tests;
+mod window;
+
+pub use fault::WindowFault;
+pub use laws::{same_without_files, splices_join};
+pub use window::Window;
