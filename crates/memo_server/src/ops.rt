@@ -16,8 +16,8 @@ pub enum ShardOp<R: Recipe> {
     Sweep { horizon: u64 },
 }
 
-/// What a turn on a shard answers: the answer of the call.
-#[derive(Drop)]
+/// What a turn on a shard answers: the answer of the call. Who takes a turn takes the reply apart: it is not `Drop`, since
+/// the kit gives no proof of that drop where a list of passes is dropped.
 pub enum ShardReply<R: Recipe> {
     Look(Result<ShardLook<R>, AllocError>),
     Keep(Result<ShardKeep<R>, (AllocError, R::In, R::Out)>),

@@ -27,6 +27,11 @@ abbrev pub Faults : MemoFault → ℕ → CallerView → CallerView → Type 0
 Faults (Worn ticket) s old new = AtShard (WornOut ticket) s old new
 Faults Mem s old new = AtShard (Missed old.number) s old new
 
+-- The turn that was played: the caller's event, or an empty one.
+abbrev pub Went : ℕ → Turn → ShardKnown → ShardKnown → Type 0
+Went number (Made e) old new = Gained number e old new
+Went number Empty old new = Missed number old new
+
 module _ {R I O : Type 0} (fits : I → O → Type 0) where
   -- What a caller may ask for, by its own events of the shard.
   abbrev pub MayAsk : ℕ → ShardKnown → ShardOp R I O → Type 0
@@ -36,11 +41,6 @@ module _ {R I O : Type 0} (fits : I → O → Type 0) where
   MayAsk number k (SweepOp horizon) = Unit {0}
 
   module _ (digest_of : I → List ℕ) where
-    -- The turn that was played: the caller's event, or an empty one.
-    abbrev pub Went : ℕ → Turn → ShardKnown → ShardKnown → Type 0
-    Went number (Made e) old new = Gained number e old new
-    Went number Empty old new = Missed number old new
-
     -- A turn that answers what was asked by this reply.
     abbrev pub TookTurn : ShardOp R I O → ShardReply R I O → ℕ → ShardKnown → ShardKnown → Type 0
     TookTurn op reply number old new = (e : Turn) × Answered fits digest_of e op reply × Went number e old new

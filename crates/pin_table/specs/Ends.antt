@@ -1,5 +1,6 @@
 -- The beginning and the end of a memo.
 use Rattle.std.specs.Prelude.{◌≡◌, ℕ, ◌+◌, ◌≤◌, List, ◌++◌, length, slice_get, Some}
+use Rattle.atomic_table.specs.Seated.{TableId}
 use Rattle.memo_core.specs.declared.event.Event.{Event}
 use Rattle.memo_server.specs.Shards.{ShardView}
 use Rattle.memo_server.specs.Callers.{caller_of, own}
@@ -7,7 +8,7 @@ use Rattle.pin_table.specs.Views.{MemoView, CallerView, newcomer}
 use Rattle.pin_table.specs.Known.{known_at}
 
 -- The callers are numbered by their places, and have played no turn at these locks.
-abbrev pub AreNewcomers : List _ → List CallerView → Type 0
+abbrev pub AreNewcomers : List TableId → List CallerView → Type 0
 AreNewcomers locks cs = (i : ℕ) (c : CallerView) → slice_get cs i ≡ Some c → c ≡ newcomer locks i
 
 -- A new memo with its callers.

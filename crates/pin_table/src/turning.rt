@@ -49,7 +49,9 @@ impl<R: Recipe> Memo<R> {
             Ok(ShardReply::Look(Ok(ShardLook::Absent))) => return Ok(Looked::Absent),
             Ok(ShardReply::Look(Ok(ShardLook::Clash(entry)))) => return Ok(Looked::Clash(entry)),
             Ok(ShardReply::Look(Err(_))) => return Err(MemoFault::Mem),
-            Ok(_) => unreachable!(),
+            Ok(ShardReply::Keep(_)) => unreachable!(),
+            Ok(ShardReply::Release) => unreachable!(),
+            Ok(ShardReply::Sweep(_)) => unreachable!(),
             Err(Turned::Worn { ticket, op: _ }) => return Err(MemoFault::Worn { ticket }),
         }
     }
@@ -102,7 +104,9 @@ impl<R: Recipe> Memo<R> {
                     out,
                 });
             }
-            Ok(_) => unreachable!(),
+            Ok(ShardReply::Look(_)) => unreachable!(),
+            Ok(ShardReply::Release) => unreachable!(),
+            Ok(ShardReply::Sweep(_)) => unreachable!(),
             Err(Turned::Worn {
                 ticket,
                 op: ShardOp::Keep { run: _, input, out },
@@ -138,7 +142,9 @@ impl<R: Recipe> Memo<R> {
         let id = pin.entry.id();
         match self.turn(rt, caller, pin.shard, ShardOp::Release { id }) {
             Ok(ShardReply::Release) => return Ok(()),
-            Ok(_) => unreachable!(),
+            Ok(ShardReply::Look(_)) => unreachable!(),
+            Ok(ShardReply::Keep(_)) => unreachable!(),
+            Ok(ShardReply::Sweep(_)) => unreachable!(),
             Err(_) => return Err(pin),
         }
     }
@@ -164,7 +170,9 @@ impl<R: Recipe> Memo<R> {
         match self.turn(rt, caller, shard, ShardOp::Sweep { horizon }) {
             Ok(ShardReply::Sweep(Ok(dropped))) => return Ok(dropped),
             Ok(ShardReply::Sweep(Err(_))) => return Err(MemoFault::Mem),
-            Ok(_) => unreachable!(),
+            Ok(ShardReply::Look(_)) => unreachable!(),
+            Ok(ShardReply::Keep(_)) => unreachable!(),
+            Ok(ShardReply::Release) => unreachable!(),
             Err(Turned::Worn { ticket, op: _ }) => return Err(MemoFault::Worn { ticket }),
         }
     }
