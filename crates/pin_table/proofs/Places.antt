@@ -1,0 +1,44 @@
+-- Lists by their places.
+use Rattle.std.proofs.Common.{◌≡◌, ◌≢◌, ℕ, zero, suc, ◌+◌, ◌<◌, ◌≤◌, List, [], ◌∷◌, ◌++◌, length, get_or, set, map, take, drop, Some, None, slice_get, All, refl, sym, ap, subst, ◌∙◌, arith, length-append}
+
+module _ {A : Type 0} where
+  pub same_some : (a b : A) → Some a ≡ Some b → a ≡ b
+  same_some a b h = cc
+
+  -- what stands at a place
+  pub at-get : (xs : List A) (i : ℕ) (d : A) → i < length xs → slice_get xs i ≡ Some (get_or xs i d)
+  at-get [] i d lt = absurd (omega (arith, lt))
+  at-get (x ∷ xs) zero d lt = refl
+  at-get (x ∷ xs) (suc i) d lt = at-get xs i d (omega (arith, lt))
+
+  pub get-at : (xs : List A) (i : ℕ) (d a : A) → slice_get xs i ≡ Some a → get_or xs i d ≡ a
+  get-at [] i d a at = cc
+  get-at (x ∷ xs) zero d a at = same_some x a at
+  get-at (x ∷ xs) (suc i) d a at = get-at xs i d a at
+
+  pub at-inside : (xs : List A) (i : ℕ) (a : A) → slice_get xs i ≡ Some a → i < length xs
+  at-inside [] i a at = cc
+  at-inside (x ∷ xs) zero a at = omega arith
+  at-inside (x ∷ xs) (suc i) a at = omega (arith, at-inside xs i a at)
+
+  -- what does not depend on the default
+  pub get-same : (xs : List A) (i : ℕ) (d e : A) → i < length xs → get_or xs i d ≡ get_or xs i e
+  get-same xs i d e lt = get-at xs i d (get_or xs i e) (at-get xs i e lt)
+
+  module _ (P : A → Type 0) where
+    pub all-at : (xs : List A) (i : ℕ) (a : A) → All P xs → slice_get xs i ≡ Some a → P a
+    all-at xs i a all at = subst P (get-at xs i a a at) (all i a (at-inside xs i a at))
+
+module _ {A B : Type 0} (f : A → B) where
+  pub map-get : (xs : List A) (i : ℕ) (d : A) (e : B) → i < length xs → get_or (map f xs) i e ≡ f (get_or xs i d)
+  map-get [] i d e lt = absurd (omega (arith, lt))
+  map-get (x ∷ xs) zero d e lt = refl
+  map-get (x ∷ xs) (suc i) d e lt = map-get xs i d e (omega (arith, lt))
+
+  pub length-mapped : (xs : List A) → length (map f xs) ≡ length xs
+  length-mapped [] = refl
+  length-mapped (x ∷ xs) = ap suc (length-mapped xs)
+
+  pub map-push : (xs : List A) (a : A) → map f (xs ++ a ∷ []) ≡ map f xs ++ f a ∷ []
+  map-push [] a = refl
+  map-push (x ∷ xs) a = ap (λ (l : List B). f x ∷ l) (map-push xs a)
