@@ -25,6 +25,10 @@ module _ {A : Type 0} where
   pub get-same : (xs : List A) (i : ℕ) (d e : A) → i < length xs → get_or xs i d ≡ get_or xs i e
   get-same xs i d e lt = get-at xs i d (get_or xs i e) (at-get xs i e lt)
 
+  -- what an index read
+  pub read-at : (xs : List A) (i : ℕ) (a : A) → i < length xs → a ≡ get_or xs i a → slice_get xs i ≡ Some a
+  read-at xs i a lt is = at-get xs i a lt ∙ ap (λ (x : A). Some x) (sym is)
+
   module _ (P : A → Type 0) where
     pub all-at : (xs : List A) (i : ℕ) (a : A) → All P xs → slice_get xs i ≡ Some a → P a
     all-at xs i a all at = subst P (get-at xs i a a at) (all i a (at-inside xs i a at))
@@ -42,3 +46,10 @@ module _ {A B : Type 0} (f : A → B) where
   pub map-push : (xs : List A) (a : A) → map f (xs ++ a ∷ []) ≡ map f xs ++ f a ∷ []
   map-push [] a = refl
   map-push (x ∷ xs) a = ap (λ (l : List B). f x ∷ l) (map-push xs a)
+
+-- two lists that are seen the same, at one place
+pub same-at : {A B C : Type 0} (f : A → C) (g : B → C) (xs : List A) (ys : List B) (i : ℕ) (a : A) (b : B) → map f xs ≡ map g ys → i < length xs → i < length ys → a ≡ get_or xs i a → b ≡ get_or ys i b → f a ≡ g b
+same-at {A} {B} {C} f g xs ys i a b same left right is there =
+    let x : get_or (map f xs) i (f a) ≡ f (get_or xs i a) = map-get f xs i a (f a) left in
+    let y : get_or (map g ys) i (f a) ≡ g (get_or ys i b) = map-get g ys i b (f a) right in
+    ap f is ∙ (sym x ∙ (ap (λ (l : List C). get_or l i (f a)) same ∙ (y ∙ ap g (sym there))))

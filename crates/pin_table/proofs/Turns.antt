@@ -4,7 +4,7 @@ use lib.Seq.{map-set, map-set_same}
 use Rattle.turn_lock.specs.declared.knowledge.Known.{Known}
 use Rattle.turn_lock.specs.declared.tokens.Turned.{Turned}
 use Rattle.turn_lock.specs.declared.tokens.Turned.TheVariants.{Worn}
-use Rattle.turn_lock.specs.Views.{PassView}
+use Rattle.turn_lock.specs.Views.{PassView, LockView}
 use Rattle.turn_lock.specs.Under.{under}
 use Rattle.turn_lock.specs.Passes.{Played, WasWorn}
 use Rattle.memo_server.specs.declared.turn.Turn.{Turn}
@@ -16,7 +16,7 @@ use Rattle.memo_server.specs.Turns.{May, Answered}
 use Rattle.pin_table.specs.Views.{ShardKnown, CallerView, known_of, PassFits}
 use Rattle.pin_table.specs.Known.{AtShard, CallerFits, KnownFits, known_at, WornOut}
 use Rattle.pin_table.specs.Answers.{MayAsk, TookTurn, RefusedTurn}
-use Rattle.pin_table.proofs.Places.{same_some, at-get, get-at, get-same, all-at, map-get, length-mapped}
+use Rattle.pin_table.proofs.Places.{same_some, read-at, same-at, at-get, get-at, get-same, all-at, map-get, length-mapped}
 use Rattle.pin_table.proofs.Gains.{went, worn, known-fits, may-release}
 
 -- What a caller with these passes is seen as.
@@ -46,6 +46,20 @@ module _ (n s : ℕ) (ps : List (PassView Turn)) (p q : PassView Turn) (inside :
           let b : map (λ (p : PassView Turn). known_of p.known) (set ps s q) ≡ set (map (λ (p : PassView Turn). known_of p.known) ps) s (known_of q.known) = map-set (λ (p : PassView Turn). known_of p.known) ps s q in
           rw (a, b) refl
 
+-- What a memo with these locks and a caller with these passes have at a shard.
+module _ (ls : List LockView) (ps : List (PassView Turn)) (s : ℕ) (l : LockView) (p : PassView Turn) (same : map (λ p. p.lock) ps ≡ map (λ l. l.id) ls) (inside : s < length (map (λ l. l.id) ls)) (is : p ≡ get_or ps s p) (there : l ≡ get_or ls s l) where
+  lock-inside : s < length ls
+  lock-inside = subst (λ n. s < n) (length-mapped (λ (l : LockView). l.id) ls) inside
+
+  pub pass-inside : s < length ps
+  pass-inside = subst (λ n. s < n) (ap length (sym same) ∙ length-mapped (λ (p : PassView Turn). p.lock) ps) inside
+
+  pub pass-at : slice_get ps s ≡ Some p
+  pass-at = read-at ps s p pass-inside is
+
+  pub lock-at : p.lock ≡ l.id
+  lock-at = same-at (λ (p : PassView Turn). p.lock) (λ (l : LockView). l.id) ps ls s p l same pass-inside lock-inside is there
+
 module _ {R I O : Type 0} (fits : I → O → Type 0) (digest_of : I → List ℕ) where
   -- What the lock asks of an operation.
   pub may-ask : (op : ShardOp R I O) (n : ℕ) (k : Known Turn) → PassFits n k → MayAsk fits n (known_of k) op → May fits (under whose k.number k.mine) op
@@ -65,3 +79,7 @@ module _ {R I O : Type 0} (fits : I → O → Type 0) (digest_of : I → List �
     pub refused-at : (r : Result (ShardReply R I O) (Turned (ShardOp R I O))) → IfErr r (λ w. WasWorn op w p.known q.known) → IfErr r (λ w. RefusedTurn fits digest_of op w s (caller_of_passes n ps) (caller_of_passes n (set ps s q)))
     refused-at (Ok reply) h = tt
     refused-at (Err (Worn ticket back)) h = (h.0, at-pass n s ps p q inside at locked (WornOut ticket) (worn ticket p.known q.known h.1))
+
+  -- What the caller of a pass may ask, the pass may.
+  pub may-asked : (op : ShardOp R I O) (n s : ℕ) (ps : List (PassView Turn)) (p : PassView Turn) → All (λ p. PassFits n p.known) ps → s < length ps → slice_get ps s ≡ Some p → MayAsk fits n (known_at s (caller_of_passes n ps)) op → May fits (under whose p.known.number p.known.mine) op
+  may-asked op n s ps p all inside at h = may-ask op n p.known (all-at (λ (p : PassView Turn). PassFits n p.known) ps s p all at) (subst (λ (k : ShardKnown). MayAsk fits n k op) (map-get (λ (p : PassView Turn). known_of p.known) ps s p _ inside ∙ ap (λ (p : PassView Turn). known_of p.known) (get-at ps s p p at)) h)
