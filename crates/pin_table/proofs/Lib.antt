@@ -1,3 +1,4 @@
 pub mod Places
 pub mod Gains
 pub mod Turns
+pub mod Replies
