@@ -53,3 +53,9 @@ same-at {A} {B} {C} f g xs ys i a b same left right is there =
     let x : get_or (map f xs) i (f a) ≡ f (get_or xs i a) = map-get f xs i a (f a) left in
     let y : get_or (map g ys) i (f a) ≡ g (get_or ys i b) = map-get g ys i b (f a) right in
     ap f is ∙ (sym x ∙ (ap (λ (l : List C). get_or l i (f a)) same ∙ (y ∙ ap g (sym there))))
+
+-- a place where something else than the default stands
+pub at-some : {A : Type 0} (P : A → Type 0) (xs : List A) (i : ℕ) (d : A) → (P d → ⊥) → P (get_or xs i d) → i < length xs
+at-some P [] i d off h = absurd (off h)
+at-some P (x ∷ xs) zero d off h = omega arith
+at-some P (x ∷ xs) (suc i) d off h = omega (arith, at-some P xs i d off h)

@@ -5,6 +5,7 @@ use Rattle.memo_core.specs.declared.event.Event.{Event}
 use Rattle.memo_core.specs.declared.event.Event.TheVariants.{Look, Keep, Release, Sweep}
 use Rattle.memo_core.specs.declared.event.LookAnswer.TheVariants.{Hit as HitAnswer, Absent as AbsentAnswer, Clash as ClashAnswer}
 use Rattle.memo_core.specs.declared.event.KeepAnswer.TheVariants.{Stored as StoredAnswer, Found as FoundAnswer, Clash as KeepClashAnswer}
+use Rattle.memo_core.specs.History.{held}
 use Rattle.memo_server.specs.declared.turn.Turn.{Turn}
 use Rattle.memo_server.specs.declared.turn.Turn.TheVariants.{Made, Empty}
 use Rattle.memo_server.specs.declared.ops.ShardOp.TheVariants.{Look as LookOp, Keep as KeepOp, Release as ReleaseOp, Sweep as SweepOp}
@@ -21,10 +22,10 @@ use Rattle.pin_table.specs.declared.answers.Kept.{Kept}
 use Rattle.pin_table.specs.declared.answers.Kept.TheVariants.{Stored, Found, Clash as KeepClash}
 use Rattle.pin_table.specs.declared.answers.MemoFault.TheVariants.{Worn, Mem}
 use Rattle.pin_table.specs.Views.{ShardKnown, CallerView, PinView, nothing}
-use Rattle.pin_table.specs.Known.{Gained, Missed, WornOut, AtShard, CallerFits, known_at}
+use Rattle.pin_table.specs.Known.{Gained, Missed, WornOut, AtShard, CallerFits, known_at, held_at}
 use Rattle.pin_table.specs.Answers.{Went, TookTurn, LookedAs, KeptAs, Looks, Keeps, Faults}
 use Rattle.pin_table.specs.Placing.{shard_at}
-use Rattle.pin_table.proofs.Places.{at-get}
+use Rattle.pin_table.proofs.Places.{at-get, at-some}
 
 -- The same shard's knowledge went on, as is said otherwise.
 pub at-map : (P Q : ShardKnown → ShardKnown → Type 0) (s : ℕ) (v w : CallerView) → ((k j : ShardKnown) → P k j → Q k j) → AtShard P s v w → AtShard Q s v w
@@ -63,6 +64,10 @@ worn-at v w s t at ticket h = subst (λ (i : ℕ). AtShard (WornOut ticket) i v 
 -- The shard of an input, as it was computed.
 pub placed : (d e : List ℕ) (n m : ℕ) (s : ℕ) → s ≡ shard_at e n → e ≡ d → n ≡ m → s ≡ shard_at d m
 placed d e n m s is digest count = is ∙ (ap (λ (x : List ℕ). shard_at x n) digest ∙ ap (shard_at d) count)
+
+-- What a caller holds stands at one of its shards.
+pub held-inside : (s id : ℕ) (v : CallerView) → 0 < held_at s id v → s < length v.shards
+held-inside s id v h = at-some (λ (k : ShardKnown). 0 < held v.number id k.mine) v.shards s nothing (λ none. absurd (omega (arith, none))) h
 
 module _ {I O : Type 0} where
   -- The pin on an entry.

@@ -139,6 +139,8 @@ impl<R: Recipe> Memo<R> {
         ensures back { IfErr result (λ back. back ≡ pin) }
         ensures worn { IfErr result (λ _. AtShard (WornOut (known_at pin.shard caller.new).shown) pin.shard caller.old caller.new) }
     {
+        // What the caller holds stands at one of its shards.
+        let _ = caller.number();
         let id = pin.entry.id();
         match self.turn(rt, caller, pin.shard, ShardOp::Release { id }) {
             Ok(ShardReply::Release) => return Ok(()),
