@@ -2,3 +2,4 @@ pub mod Places
 pub mod Gains
 pub mod Turns
 pub mod Replies
+pub mod Holds
