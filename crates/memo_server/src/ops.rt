@@ -16,11 +16,12 @@ pub enum ShardOp<R: Recipe> {
     Sweep { horizon: u64 },
 }
 
-/// What a turn on a shard answers: the answer of the call. Who takes a turn takes the reply apart: it is not `Drop`, since
-/// the kit gives no proof of that drop where a list of passes is dropped.
+/// What a turn on a shard answers: the answer of the call.
+// In this order of variants the kit proves, in the crates above, that a list of passes may be dropped.
+#[derive(Drop)]
 pub enum ShardReply<R: Recipe> {
-    Look(Result<ShardLook<R>, AllocError>),
     Keep(Result<ShardKeep<R>, (AllocError, R::In, R::Out)>),
+    Look(Result<ShardLook<R>, AllocError>),
     Release,
     Sweep(Result<u64, AllocError>),
 }

@@ -206,14 +206,8 @@ fn a_kept_entry_is_found_again(rt: HostRuntime) -> Result<(), Fail> {
 fn a_turn_makes_one_call(rt: HostRuntime) -> Result<(), Fail> {
     let mut shard = Shard::<Twice>::new(rt.alloc());
     let op = ShardOp::Look { run: 1, input: 5 };
-    let absent = match shard.play(3, op) {
-        ShardReply::Look(Ok(answer)) => matches!(&answer, ShardLook::Absent),
-        ShardReply::Look(Err(_)) => false,
-        ShardReply::Keep(_) => false,
-        ShardReply::Release => false,
-        ShardReply::Sweep(_) => false,
-    };
-    assert!(rt; absent);
+    let reply = shard.play(3, op);
+    assert!(rt; matches!(&reply, ShardReply::Look(Ok(ShardLook::Absent))));
     assert!(rt; shard.history().len() == 1);
     Ok(())
 }
