@@ -1,5 +1,5 @@
 -- Lists by their places.
-use Rattle.std.proofs.Common.{◌≡◌, ◌≢◌, ℕ, zero, suc, ◌+◌, ◌<◌, ◌≤◌, List, [], ◌∷◌, ◌++◌, length, get_or, set, map, take, drop, Some, None, slice_get, All, refl, sym, ap, subst, ◌∙◌, arith, length-append}
+use Rattle.std.proofs.Common.{◌≡◌, ◌≢◌, ℕ, zero, suc, ◌+◌, ◌<◌, ◌≤◌, List, [], ◌∷◌, ◌++◌, length, get_or, set, map, take, drop, Some, None, slice_get, All, refl, sym, ap, subst, ◌∙◌, arith, length-append, ◌⊎◌, inl, inr, ⊎_elim}
 
 module _ {A : Type 0} where
   pub same_some : (a b : A) → Some a ≡ Some b → a ≡ b
@@ -24,6 +24,25 @@ module _ {A : Type 0} where
   -- what does not depend on the default
   pub get-same : (xs : List A) (i : ℕ) (d e : A) → i < length xs → get_or xs i d ≡ get_or xs i e
   get-same xs i d e lt = get-at xs i d (get_or xs i e) (at-get xs i e lt)
+
+  -- the last one is new
+  pub at-last : (xs : List A) (x c : A) (i : ℕ) → slice_get (xs ++ x ∷ []) i ≡ Some c → (slice_get xs i ≡ Some c) ⊎ ((i ≡ length xs) × (x ≡ c))
+  at-last [] x c zero at = inr (refl, same_some x c at)
+  at-last [] x c (suc i) at = cc
+  at-last (y ∷ xs) x c zero at = inl at
+  at-last (y ∷ xs) x c (suc i) at = ⊎_elim (λ h. inl h) (λ h. inr (ap suc h.0, h.1)) (at-last xs x c i at)
+
+  -- the one after those at the front
+  pub at-taken : (xs ys : List A) (n : ℕ) (d : A) → n < length xs → get_or (take (suc n) xs ++ ys) n d ≡ get_or xs n d
+  at-taken [] ys n d lt = absurd (omega (arith, lt))
+  at-taken (x ∷ xs) ys zero d lt = refl
+  at-taken (x ∷ xs) ys (suc n) d lt = at-taken xs ys n d (omega (arith, lt))
+
+  -- one more is changed, from the end on
+  pub set-taken : (f : A → A) (xs : List A) (n : ℕ) (d : A) → n < length xs → set (take (suc n) xs ++ map f (drop (suc n) xs)) n (f (get_or xs n d)) ≡ take n xs ++ map f (drop n xs)
+  set-taken f [] n d lt = absurd (omega (arith, lt))
+  set-taken f (x ∷ xs) zero d lt = refl
+  set-taken f (x ∷ xs) (suc n) d lt = ap (λ (l : List A). x ∷ l) (set-taken f xs n d (omega (arith, lt)))
 
   -- what an index read
   pub read-at : (xs : List A) (i : ℕ) (a : A) → i < length xs → a ≡ get_or xs i a → slice_get xs i ≡ Some a

@@ -2,7 +2,7 @@
 ghost use Rattle.std.specs.Prelude.{◌≡◌, ◌<◌, ◌++◌, ◌∷◌, [], length, IfOk};
 ghost use Rattle.turn_lock.specs.Views.{unplayed};
 ghost use Rattle.pin_table.specs.Known.{CallerFits};
-ghost use Rattle.pin_table.specs.Views.{nothing, known_of};
+ghost use Rattle.pin_table.specs.Views.{newcomer, with_lock, known_of};
 
 use memo_server::{Recipe, Shard};
 use std::alloc::{AllocError, Global};
@@ -38,7 +38,7 @@ impl<R: Recipe> Caller<R> {
 
     // A caller without passes.
     pub(crate) fn new(alloc: Global, number: u64) -> Caller<R>
-        ensures { (result.locks ≡ []) × (result.number ≡ number) × (result.shards ≡ []) }
+        ensures { result ≡ newcomer [] number }
     {
         Caller {
             number,
@@ -49,7 +49,7 @@ impl<R: Recipe> Caller<R> {
     // A last pass, before its first turn.
     pub(crate) fn take(&mut self, pass: Pass<Shard<R>>) -> Result<(), AllocError>
         requires { pass ≡ unplayed pass.lock self.old.number }
-        ensures { IfOk result (λ _. (self.new.locks ≡ self.old.locks ++ pass.lock ∷ []) × (self.new.number ≡ self.old.number) × (self.new.shards ≡ self.old.shards ++ nothing ∷ [])) }
+        ensures { IfOk result (λ _. self.new ≡ with_lock pass.lock self.old) }
     {
         self.passes.push(pass)?;
         Ok(())

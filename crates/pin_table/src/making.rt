@@ -62,7 +62,7 @@ fn without_passes<R: Recipe>(
     ensures { IfOk result (λ all. (vec_len all ≡ callers) × AreNewcomers [] all.items) }
 {
     let mut all = Vec::with_capacity(alloc, callers as usize)?;
-    'callers: for number in 0..callers {
+    'numbers: for number in 0..callers {
         all.push_reserved(Caller::new(alloc, number as u64));
     }
     Ok(all)
