@@ -3,3 +3,4 @@ pub mod Gains
 pub mod Turns
 pub mod Replies
 pub mod Holds
+pub mod Dealt

@@ -1,6 +1,10 @@
 //! How a memo and its callers are made.
 ghost use Rattle.std.specs.Prelude.{◌≡◌, ℕ, ◌^◌, ◌<◌, ◌≤◌, ◌++◌, ◌∷◌, [], length, vec_len, vec_capacity, slice_get, Some, IfOk, map, All};
-ghost use Rattle.turn_lock.specs.Views.{LockView};
+ghost use mathlib.Core.Option.{some};
+ghost use lib.ListN.{get_elem?};
+ghost use Rattle.atomic_table.specs.Seated.{TableId};
+ghost use Rattle.turn_lock.specs.Views.{PassView, unplayed};
+ghost use Rattle.memo_server.specs.declared.turn.Turn.{Turn};
 ghost use Rattle.pin_table.specs.Views.{CallerView, with_lock};
 ghost use Rattle.pin_table.specs.Ends.{AreNewcomers, Starts};
 
@@ -8,7 +12,7 @@ use crate::caller::Caller;
 use crate::memo::Memo;
 use memo_server::{Recipe, Shard};
 use std::alloc::{AllocError, Global};
-use turn_lock::TurnLock;
+use turn_lock::{Pass, TurnLock};
 
 impl<R: Recipe> Memo<R> {
     /// A memo without entries whose locks start at 0, and its callers, numbered from 0 in their order.
@@ -80,10 +84,23 @@ fn lock_for<R: Recipe>(
     ensures lock { IfOk result (λ l. (l.start ≡ n) × (l.callers ≡ vec_len all.old)) }
     ensures callers { IfOk result (λ l. all.new.items ≡ map (with_lock l.id) all.old.items) }
 {
-    let (lock, mut passes) =
-        TurnLock::starting_at(alloc, n, Shard::new(alloc), all.len() as u32)?;
+    let (lock, passes) = TurnLock::starting_at(alloc, n, Shard::new(alloc), all.len() as u32)?;
+    hand_out(passes, all)?;
+    Ok(lock)
+}
+
+// Gives each caller the pass of its number.
+fn hand_out<R: Recipe>(
+    mut passes: Vec<Pass<Shard<R>>>,
+    all: &mut Vec<Caller<R>>,
+) -> Result<(), AllocError>
+    requires count { vec_len passes ≡ vec_len all.old }
+    requires passes { (i : ℕ) (p : PassView Turn) → get_elem? passes.items i ≡ some p → p ≡ unplayed p.lock i }
+    requires numbers { (i : ℕ) (c : CallerView) → slice_get all.old.items i ≡ Some c → c.number ≡ i }
+    ensures { (id : TableId) → All (λ p. p.lock ≡ id) passes.items → IfOk result (λ _. all.new.items ≡ map (with_lock id) all.old.items) }
+{
     'passes: while let Some(pass) = passes.pop() {
         all[passes.len()].take(pass)?;
     }
-    Ok(lock)
+    Ok(())
 }
