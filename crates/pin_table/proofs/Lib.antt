@@ -4,3 +4,4 @@ pub mod Turns
 pub mod Replies
 pub mod Holds
 pub mod Dealt
+pub mod Newcomers

@@ -58,6 +58,11 @@ module _ {A B : Type 0} (f : A → B) where
   map-get (x ∷ xs) zero d e lt = refl
   map-get (x ∷ xs) (suc i) d e lt = map-get xs i d e (omega (arith, lt))
 
+  pub mapped-at : (xs : List A) (i : ℕ) (b : B) → slice_get (map f xs) i ≡ Some b → (a : A) × (slice_get xs i ≡ Some a) × (f a ≡ b)
+  mapped-at [] i b at = cc
+  mapped-at (x ∷ xs) zero b at = (x, refl, same_some (f x) b at)
+  mapped-at (x ∷ xs) (suc i) b at = mapped-at xs i b at
+
   pub length-mapped : (xs : List A) → length (map f xs) ≡ length xs
   length-mapped [] = refl
   length-mapped (x ∷ xs) = ap suc (length-mapped xs)
