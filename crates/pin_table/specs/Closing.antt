@@ -11,6 +11,7 @@ pub record GivesOne (old new : CallerView) (p : PassView Turn) : Type 0 where
   pub number : (new.number ≡ old.number) × (p.known.number ≡ old.number)
   pub locks : old.locks ≡ new.locks ++ p.lock ∷ []
   pub shards : old.shards ≡ new.shards ++ known_of p.known ∷ []
+  pub count : length new.shards ≡ length new.locks
 
 -- Each of the callers gave its last pass, in order.
 abbrev pub Gives : List CallerView → List CallerView → List (PassView Turn) → Type 0

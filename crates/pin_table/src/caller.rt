@@ -1,8 +1,9 @@
 //! One who calls a memo.
-ghost use Rattle.std.specs.Prelude.{◌≡◌, ◌<◌, ◌++◌, ◌∷◌, [], length, IfOk};
+ghost use Rattle.std.specs.Prelude.{◌≡◌, ◌<◌, [], length, IfOk};
 ghost use Rattle.turn_lock.specs.Views.{unplayed};
 ghost use Rattle.pin_table.specs.Known.{CallerFits};
-ghost use Rattle.pin_table.specs.Views.{newcomer, with_lock, known_of};
+ghost use Rattle.pin_table.specs.Views.{newcomer, with_lock};
+ghost use Rattle.pin_table.specs.Closing.{GivesOne};
 
 use memo_server::{Recipe, Shard};
 use std::alloc::{AllocError, Global};
@@ -57,10 +58,8 @@ impl<R: Recipe> Caller<R> {
 
     // Its last pass.
     pub(crate) fn give(&mut self) -> Pass<Shard<R>>
-        requires { 0 < length self.old.shards }
-        ensures number { (self.new.number ≡ self.old.number) × (result.known.number ≡ self.old.number) }
-        ensures locks { self.old.locks ≡ self.new.locks ++ result.lock ∷ [] }
-        ensures shards { self.old.shards ≡ self.new.shards ++ known_of result.known ∷ [] }
+        requires { 0 < length self.old.locks }
+        ensures { GivesOne self.old self.new result }
     {
         match self.passes.pop() {
             Some(pass) => pass,

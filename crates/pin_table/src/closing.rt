@@ -90,10 +90,10 @@ fn gather<R: Recipe>(
     mut row: Vec<Pass<Shard<R>>>,
 ) -> Vec<Pass<Shard<R>>>
     requires row { (row.items ≡ []) × (vec_len callers.old ≤ vec_capacity row) }
-    requires some { All (λ c. 0 < length c.shards) callers.old.items }
+    requires some { All (λ c. 0 < length c.locks) callers.old.items }
     ensures { Gives callers.old.items callers.new.items result.items }
 {
-    'callers: for i in 0..callers.len() {
+    'places: for i in 0..callers.len() {
         row.push_reserved(callers[i].give());
     }
     row
