@@ -5,3 +5,4 @@ pub mod Replies
 pub mod Holds
 pub mod Dealt
 pub mod Newcomers
+pub mod Giving

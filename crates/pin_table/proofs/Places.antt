@@ -44,6 +44,39 @@ module _ {A : Type 0} where
   set-taken f (x ∷ xs) zero d lt = refl
   set-taken f (x ∷ xs) (suc n) d lt = ap (λ (l : List A). x ∷ l) (set-taken f xs n d (omega (arith, lt)))
 
+  pub get-drop : (xs : List A) (i : ℕ) (d : A) → get_or (drop i xs) 0 d ≡ get_or xs i d
+  get-drop xs zero d = refl
+  get-drop [] (suc i) d = refl
+  get-drop (x ∷ xs) (suc i) d = get-drop xs i d
+
+  pub take-one : (xs : List A) (i : ℕ) (d : A) → i < length xs → take (suc i) xs ≡ take i xs ++ get_or xs i d ∷ []
+  take-one [] i d lt = absurd (omega (arith, lt))
+  take-one (x ∷ xs) zero d lt = refl
+  take-one (x ∷ xs) (suc i) d lt = ap (λ (l : List A). x ∷ l) (take-one xs i d (omega (arith, lt)))
+
+  pub take-set : (xs : List A) (i : ℕ) (y : A) → i < length xs → take (suc i) (set xs i y) ≡ take i xs ++ y ∷ []
+  take-set [] i y lt = absurd (omega (arith, lt))
+  take-set (x ∷ xs) zero y lt = refl
+  take-set (x ∷ xs) (suc i) y lt = ap (λ (l : List A). x ∷ l) (take-set xs i y (omega (arith, lt)))
+
+  pub drop-set : (xs : List A) (i : ℕ) (y : A) → drop (suc i) (set xs i y) ≡ drop (suc i) xs
+  drop-set [] i y = refl
+  drop-set (x ∷ xs) zero y = refl
+  drop-set (x ∷ xs) (suc i) y = drop-set xs i y
+
+  drop-suc : (xs : List A) (i : ℕ) → drop (suc i) xs ≡ drop 1 (drop i xs)
+  drop-suc [] zero = refl
+  drop-suc [] (suc i) = refl
+  drop-suc (x ∷ xs) zero = refl
+  drop-suc (x ∷ xs) (suc i) = drop-suc xs i
+
+  pub drop-same : (xs ys : List A) (i : ℕ) → drop i xs ≡ drop i ys → drop (suc i) xs ≡ drop (suc i) ys
+  drop-same xs ys i same = drop-suc xs i ∙ (ap (drop 1) same ∙ sym (drop-suc ys i))
+
+  pub at-length : (xs : List A) (x : A) → slice_get (xs ++ x ∷ []) (length xs) ≡ Some x
+  at-length [] x = refl
+  at-length (y ∷ xs) x = at-length xs x
+
   -- what an index read
   pub read-at : (xs : List A) (i : ℕ) (a : A) → i < length xs → a ≡ get_or xs i a → slice_get xs i ≡ Some a
   read-at xs i a lt is = at-get xs i a lt ∙ ap (λ (x : A). Some x) (sym is)
