@@ -6,3 +6,4 @@ pub mod Holds
 pub mod Dealt
 pub mod Newcomers
 pub mod Giving
+pub mod Handed
