@@ -17,9 +17,9 @@ use Rattle.memo_server.specs.Histories.{events}
 use Rattle.memo_server.proofs.OwnTurns.{events-under}
 use Rattle.pin_table.specs.Views.{ShardKnown, CallerView, nothing, known_of}
 use Rattle.pin_table.specs.Known.{known_at}
-use Rattle.pin_table.specs.Ends.{CallerCloses, ShardCloses}
+use Rattle.pin_table.specs.Ends.{CallerCloses, ShardCloses, Closes as MemoCloses}
 use Rattle.pin_table.specs.Closing.{GivesOne, Gives, AllClose}
-use Rattle.pin_table.proofs.Places.{same_some, map-get, length-mapped, read-at}
+use Rattle.pin_table.proofs.Places.{same_some, some-at, at-inside, all-at, map-get, length-mapped, read-at}
 use Rattle.pin_table.proofs.Gains.{events-append}
 
 -- The caller of before, with its first k passes left.
@@ -230,3 +230,11 @@ all-locks [] zero is = refl
 all-locks [] (suc n) is = absurd (omega (arith, is))
 all-locks (l ∷ ls) zero is = absurd (omega (arith, is))
 all-locks (l ∷ ls) (suc n) is = ap (λ (xs : List LockView). l ∷ xs) (all-locks ls n (omega (arith, is)))
+
+-- The memo's start is each lock's.
+pub closes-memo : {I O : Type 0} (ls : List LockView) (start callers : ℕ) (cs : List CallerView) (shards : List (ShardView I O)) → All (λ l. (l.start ≡ start) × (l.callers ≡ callers)) ls → AllClose ls cs shards → MemoCloses (record { locks = map (λ l. l.id) ls; start = start; callers = callers }) cs shards
+closes-memo {I} {O} ls start callers cs shards all ends = record {
+  count = ends.count ∙ sym (length-mapped (λ (l : LockView). l.id) ls);
+  each = λ s shard at. (let l = some-at ls s (subst (λ (n : ℕ). s < n) ends.count (at-inside shards s shard at)) in
+      subst (λ (n : ℕ). ShardCloses n s shard cs) (all-at (λ (l : LockView). (l.start ≡ start) × (l.callers ≡ callers)) ls s l.0 all l.1).0 (ends.each s l.0 shard l.1 at));
+}

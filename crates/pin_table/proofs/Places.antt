@@ -77,6 +77,11 @@ module _ {A : Type 0} where
   at-length [] x = refl
   at-length (y ∷ xs) x = at-length xs x
 
+  pub some-at : (xs : List A) (i : ℕ) → i < length xs → (a : A) × (slice_get xs i ≡ Some a)
+  some-at [] i lt = absurd (omega (arith, lt))
+  some-at (x ∷ xs) zero lt = (x, refl)
+  some-at (x ∷ xs) (suc i) lt = some-at xs i (omega (arith, lt))
+
   -- what an index read
   pub read-at : (xs : List A) (i : ℕ) (a : A) → i < length xs → a ≡ get_or xs i a → slice_get xs i ≡ Some a
   read-at xs i a lt is = at-get xs i a lt ∙ ap (λ (x : A). Some x) (sym is)
