@@ -7,3 +7,4 @@ pub mod Dealt
 pub mod Newcomers
 pub mod Giving
 pub mod Handed
+pub mod Covering

@@ -1,5 +1,5 @@
 -- The beginning and the end of a memo.
-use Rattle.std.specs.Prelude.{◌≡◌, ℕ, ◌+◌, ◌≤◌, List, ◌++◌, length, slice_get, Some}
+use Rattle.std.specs.Prelude.{◌≡◌, ℕ, ◌+◌, ◌≤◌, List, ◌++◌, length, slice_get, All, Some}
 use Rattle.atomic_table.specs.Seated.{TableId}
 use Rattle.memo_core.specs.declared.event.Event.{Event}
 use Rattle.memo_server.specs.Shards.{ShardView}
@@ -17,6 +17,7 @@ pub record Starts (start shards callers : ℕ) (m : MemoView) (cs : List CallerV
   pub start_is : m.start ≡ start
   pub callers_are : m.callers ≡ callers
   pub count : length cs ≡ callers
+  pub of : All (λ c. c.locks ≡ m.locks) cs
   pub fresh : AreNewcomers m.locks cs
 
 module _ {I O : Type 0} where

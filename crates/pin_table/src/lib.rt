@@ -9,6 +9,7 @@
 mod answers;
 mod caller;
 mod closing;
+mod covers;
 mod laws;
 mod making;
 mod memo;
@@ -18,7 +19,11 @@ mod turning;
 
 pub use answers::{KeepRefused, Kept, Looked, MemoFault};
 pub use caller::Caller;
+pub use covers::{answers_balance, balances_add_up, faults_balance, releases_balance};
 pub use laws::{answers_are_exact, held_follows, held_is_found, held_is_live, turns_keep};
 pub use memo::Memo;
 pub use pin::Pin;
 pub use placing::shard_of;
+
+#[cfg(test)]
+mod tests;
