@@ -233,3 +233,225 @@ fn id_of<R: Recipe>(pin: &Pin<R>) -> u64 {
         Err(_) => u64::MAX,
     }
 }
+
+// A desk for each caller.
+fn desks_for<R: Recipe>(
+    alloc: Global,
+    memo: &Memo<R>,
+    mut callers: Vec<Caller<R>>,
+) -> Result<Vec<Desk<R>>, AllocError>
+    requires of { All (λ c. c.locks ≡ memo.now.locks) callers.items }
+    ensures count { IfOk result (λ desks. vec_len desks ≡ vec_len callers) }
+    ensures seated { IfOk result (λ desks. All (λ d. (d.caller.locks ≡ memo.now.locks) × Covered d.caller (names_of R.digest_of d.pins.items)) desks.items) }
+{
+    let mut desks = Vec::new(alloc);
+    'callers: while let Some(caller) = callers.pop() {
+        desks.push(Desk::new(alloc, caller))?;
+    }
+    Ok(desks)
+}
+
+// The last desk.
+fn last_desk<R: Recipe>(memo: &Memo<R>, desks: &mut Vec<Desk<R>>) -> Desk<R>
+    requires some { 0 < vec_len desks.old }
+    requires seated { All (λ d. (d.caller.locks ≡ memo.now.locks) × Covered d.caller (names_of R.digest_of d.pins.items)) desks.old.items }
+    ensures count { vec_len desks.new + 1 ≡ vec_len desks.old }
+    ensures seated { All (λ d. (d.caller.locks ≡ memo.now.locks) × Covered d.caller (names_of R.digest_of d.pins.items)) desks.new.items }
+    ensures of { result.caller.locks ≡ memo.now.locks }
+    ensures covered { Covered result.caller (names_of R.digest_of result.pins.items) }
+{
+    match desks.pop() {
+        Some(desk) => desk,
+        None => unreachable!(),
+    }
+}
+
+// The callers of the desks, whose pins are let go.
+fn callers_of<R: Recipe>(
+    alloc: Global,
+    memo: &Memo<R>,
+    mut desks: Vec<Desk<R>>,
+) -> Result<Vec<Caller<R>>, AllocError>
+    requires seated { All (λ d. (d.caller.locks ≡ memo.now.locks) × Covered d.caller (names_of R.digest_of d.pins.items)) desks.items }
+    ensures count { IfOk result (λ callers. vec_len callers ≡ vec_len desks) }
+    ensures of { IfOk result (λ callers. All (λ c. c.locks ≡ memo.now.locks) callers.items) }
+{
+    let mut callers = Vec::new(alloc);
+    'desks: while let Some(desk) = desks.pop() {
+        let Desk {
+            caller,
+            pins: _,
+            turns: _,
+        } = desk;
+        callers.push(caller)?;
+    }
+    Ok(callers)
+}
+
+// How many of the events are the caller's.
+fn made_by(history: &[Event], number: u64) -> u64 {
+    let mut made = 0u64;
+    for event in history {
+        let caller = match event {
+            Event::Look { caller, .. } => *caller,
+            Event::Keep { caller, .. } => *caller,
+            Event::Release { caller, .. } => *caller,
+            Event::Sweep { caller, .. } => *caller,
+        };
+        if caller == number {
+            made = made.saturating_add(1);
+        }
+    }
+    made
+}
+
+#[test]
+fn equal_digests_of_unequal_inputs_clash(rt: HostRuntime) -> Result<(), Fail> {
+    let (memo, callers) = Memo::<OneDigest>::new(rt.alloc(), 1, 1)?;
+    let mut desks = desks_for(rt.alloc(), &memo, callers)?;
+    let mut desk = last_desk(&memo, &mut desks);
+    assert!(rt; desk.keep(&rt, &memo, 1, 1, 2) == Said::Stored(0));
+    let looked = memo.look(&rt, &mut desk.caller, 1, &2);
+    assert!(rt; matches!(&looked, Ok(Looked::Clash(entry)) if *entry.input() == 1));
+    let kept = memo.keep(&rt, &mut desk.caller, 1, 2, 4);
+    assert!(rt; matches!(&kept, Ok(Kept::Clash(_, 2, 4))));
+    Ok(())
+}
+
+#[test]
+fn a_worn_lock_refuses(rt: HostRuntime) -> Result<(), Fail> {
+    let (memo, callers) = Memo::<OneDigest>::starting_at(rt.alloc(), (1 << 62) - 1, 1, 1)?;
+    let mut desks = desks_for(rt.alloc(), &memo, callers)?;
+    let mut desk = last_desk(&memo, &mut desks);
+    assert!(rt; desk.keep(&rt, &memo, 1, 1, 2) == Said::Stored(0));
+    assert!(rt; desk.look(&rt, &memo, 1, &1) == Said::Worn(1 << 62));
+    assert!(rt; desk.release(&rt, &memo) == Said::Kept);
+    assert!(rt; desk.pins.len() == 1);
+    assert!(rt; desk.sweep(&rt, &memo, 0, 9) == Said::Worn(1 << 62));
+    Ok(())
+}
+
+#[test]
+fn a_pinned_entry_outlives_a_sweep(rt: HostRuntime) -> Result<(), Fail> {
+    let (memo, callers) = Memo::<Twice>::new(rt.alloc(), 1, 2)?;
+    let mut desks = desks_for(rt.alloc(), &memo, callers)?;
+    let mut first = last_desk(&memo, &mut desks);
+    let mut second = last_desk(&memo, &mut desks);
+    assert!(rt; first.look(&rt, &memo, 1, &1) == Said::Absent);
+    assert!(rt; first.keep(&rt, &memo, 1, 1, 2) == Said::Stored(0));
+    assert!(rt; second.look(&rt, &memo, 2, &1) == Said::Hit(0));
+    assert!(rt; first.release(&rt, &memo) == Said::Released);
+    assert!(rt; second.sweep(&rt, &memo, 0, 9) == Said::Swept(0));
+    assert!(rt; second.release(&rt, &memo) == Said::Released);
+    assert!(rt; second.sweep(&rt, &memo, 0, 2) == Said::Swept(0));
+    assert!(rt; second.sweep(&rt, &memo, 0, 3) == Said::Swept(1));
+    assert!(rt; second.look(&rt, &memo, 3, &1) == Said::Absent);
+    desks.push(first)?;
+    desks.push(second)?;
+    let callers = callers_of(rt.alloc(), &memo, desks)?;
+    let Ok(shards) = memo.close(callers) else {
+        panic!(rt; "memory was there")
+    };
+    assert!(rt; shards.len() == 1);
+    let history = shards[0].history();
+    assert!(rt; history.len() == 9);
+    let end = replay(rt.alloc(), history)?;
+    assert!(rt; matches!(&end, Some(state) if state.entries.is_empty() && state.next == 1));
+    assert!(rt; replay(rt.alloc(), &history[2..3])?.is_none());
+    Ok(())
+}
+
+#[test]
+fn inputs_stand_in_the_shards_of_their_digests(rt: HostRuntime) -> Result<(), Fail> {
+    let (memo, callers) = Memo::<Twice>::new(rt.alloc(), 3, 1)?;
+    assert!(rt; memo.shards() == 3 && memo.callers() == 1 && memo.start() == 0);
+    let mut desks = desks_for(rt.alloc(), &memo, callers)?;
+    let mut desk = last_desk(&memo, &mut desks);
+    // Inputs 3 and 6 belong to shard 0, 4 to shard 1, and each shard counts its ids from 0.
+    assert!(rt; shard_of(&Twice::digest(&3), 3) == 0 && shard_of(&Twice::digest(&4), 3) == 1);
+    assert!(rt; desk.keep(&rt, &memo, 1, 3, 6) == Said::Stored(0));
+    assert!(rt; desk.keep(&rt, &memo, 1, 4, 8) == Said::Stored(0));
+    assert!(rt; desk.keep(&rt, &memo, 1, 6, 12) == Said::Stored(1));
+    assert!(rt; desk.keep(&rt, &memo, 2, 6, 12) == Said::Found(1));
+    assert!(rt; desk.look(&rt, &memo, 2, &4) == Said::Hit(0));
+    assert!(rt; desk.pins.len() == 5);
+    assert!(rt; matches!(desk.pins.last(), Some(pin) if *pin.out() == 8));
+    assert!(rt; desk.sweep(&rt, &memo, 2, 9) == Said::Swept(0));
+    desks.push(desk)?;
+    let callers = callers_of(rt.alloc(), &memo, desks)?;
+    let Ok(shards) = memo.close(callers) else {
+        panic!(rt; "memory was there")
+    };
+    assert!(rt; shards.len() == 3);
+    assert!(rt; shards[0].history().len() == 3);
+    assert!(rt; shards[1].history().len() == 2);
+    assert!(rt; shards[2].history().len() == 1);
+    Ok(())
+}
+
+// Looks, keeps what is absent, gives pins up and sweeps, over and over.
+fn works<W: Wait>(rt: &W, memo: &Memo<Twice>, desk: &mut Desk<Twice>, rounds: u64)
+    requires of { desk.old.caller.locks ≡ memo.now.locks }
+    requires covered { Covered desk.old.caller (names_of Twice.digest_of desk.old.pins.items) }
+    ensures of { desk.new.caller.locks ≡ memo.now.locks }
+    ensures covered { Covered desk.new.caller (names_of Twice.digest_of desk.new.pins.items) }
+{
+    'rounds: for round in 0..rounds {
+        turn(rt, memo, desk, round);
+    }
+}
+
+// One round.
+fn turn<W: Wait>(rt: &W, memo: &Memo<Twice>, desk: &mut Desk<Twice>, round: u64)
+    requires of { desk.old.caller.locks ≡ memo.now.locks }
+    requires covered { Covered desk.old.caller (names_of Twice.digest_of desk.old.pins.items) }
+    ensures of { desk.new.caller.locks ≡ memo.now.locks }
+    ensures covered { Covered desk.new.caller (names_of Twice.digest_of desk.new.pins.items) }
+{
+    let input = round % 20;
+    if desk.look(rt, memo, round, &input) == Said::Absent {
+        desk.keep(rt, memo, round, input, 2 * input);
+    }
+    if round % 3 != 0 {
+        desk.release(rt, memo);
+    }
+    if round % 25 == 0 {
+        desk.sweep(rt, memo, (round % 3) as u32, round);
+    }
+}
+
+#[test]
+fn threads_share_one_history_a_shard(rt: HostRuntime) -> Result<(), Fail> {
+    let (threads, rounds) = (4, 300);
+    let (memo, callers) = Memo::<Twice>::new(rt.alloc(), 3, threads as u32)?;
+    let mut desks = desks_for(rt.alloc(), &memo, callers)?;
+    thread::for_each_mut(
+        &rt,
+        desks.as_mut_slice(),
+        threads,
+        &|_, desk: &mut Desk<Twice>|
+            requires { (desk.now.caller.locks ≡ memo.locks) × Covered desk.now.caller (names_of Twice.digest_of desk.now.pins.items) }
+            ensures { (desk.exit.now.caller.locks ≡ memo.locks) × Covered desk.exit.now.caller (names_of Twice.digest_of desk.exit.now.pins.items) }
+        { works(&rt, &memo, desk, rounds) },
+    );
+    let mut made = Vec::new(rt.alloc());
+    for desk in &desks {
+        made.push((desk.caller.number(), desk.turns))?;
+    }
+    let callers = callers_of(rt.alloc(), &memo, desks)?;
+    let Ok(shards) = memo.close(callers) else {
+        panic!(rt; "memory was there")
+    };
+    assert!(rt; shards.len() == 3);
+    for shard in &shards {
+        assert!(rt; replay(rt.alloc(), shard.history())?.is_some());
+    }
+    for (number, turns) in &made {
+        let mut events = 0u64;
+        for shard in &shards {
+            events = events.saturating_add(made_by(shard.history(), *number));
+        }
+        assert_eq!(rt; events, *turns);
+    }
+    Ok(())
+}
