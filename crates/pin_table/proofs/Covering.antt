@@ -24,7 +24,7 @@ use Rattle.pin_table.specs.declared.answers.Kept.TheVariants.{Stored, Found, Cla
 use Rattle.pin_table.specs.declared.answers.MemoFault.{MemoFault}
 use Rattle.pin_table.specs.declared.answers.MemoFault.TheVariants.{Worn, Mem}
 use Rattle.pin_table.specs.Covers.{PinName, is_on, count, gave, IsGiven, AreGiven, Covered, IsLater, Balanced, name_of, names_of, looked_pins, kept_pins}
-use Rattle.pin_table.proofs.Places.{at-get}
+use Rattle.pin_table.proofs.Places.{at-get, map-push}
 use Rattle.pin_table.proofs.Replies.{at-map}
 use Rattle.pin_table.proofs.Holds.{held-follows, turn-keeps}
 
@@ -349,3 +349,28 @@ module _ (v w : CallerView) (known : CallerFits v) (ps : List PinName) (covered 
         let s = shard_at (digest_of input) (length v.locks) in
         stays (Keep v.number run (digest_of input) (KeepClashAnswer e.id)) s (λ id. refl) (λ id. refl)
         (at-map (KeptAs {R = R} fits digest_of v.number s run input out (KeepClash e i o)) (Gained v.number (Keep v.number run (digest_of input) (KeepClashAnswer e.id))) s v w (λ k j t. t.5) h)
+
+-- Pins in a list that grows and shrinks at its end.
+module _ {I O : Type 0} (digest_of : I → List ℕ) (w : CallerView) where
+  pub covered-push : (ps qs rs : List (PinView I O)) (p : PinView I O) → qs ≡ rs ++ p ∷ [] → rs ≡ ps → Covered w (names_of digest_of ps ++ name_of digest_of p ∷ []) → Covered w (names_of digest_of qs)
+  covered-push ps qs rs p is same h = subst (Covered w) (sym (ap (names_of digest_of) is ∙ (map-push (name_of digest_of) rs p ∙ ap (λ (xs : List (PinView I O)). names_of digest_of xs ++ name_of digest_of p ∷ []) same))) h
+
+  pub covered-kept : (ps rs : List (PinView I O)) → rs ≡ ps → Covered w (names_of digest_of ps ++ []) → Covered w (names_of digest_of rs)
+  covered-kept ps rs same h = subst (Covered w) (append-nil (names_of digest_of ps) ∙ ap (names_of digest_of) (sym same)) h
+
+  pub covered-pop : (ps rs : List (PinView I O)) (p : PinView I O) → ps ≡ rs ++ p ∷ [] → Covered w (names_of digest_of ps) → Covered w (names_of digest_of rs ++ name_of digest_of p ∷ [])
+  covered-pop ps rs p is h = subst (Covered w) (ap (names_of digest_of) is ∙ map-push (name_of digest_of) rs p) h
+
+-- The last pin may be released, and the others stay covered when it was.
+module _ (v w : CallerView) (os : List PinName) (p : PinName) (covered : Covered v (os ++ p ∷ [])) where
+  pub last-own : p.caller ≡ v.number
+  last-own = (given-right v os (p ∷ []) covered.given).0.caller
+
+  pub last-held : 0 < held_at p.shard p.id v
+  last-held = covered-held v p [] (covered-right v os (p ∷ []) covered)
+
+  pub last-released : CallerFits v → AtShard (Gained v.number (Release v.number p.id)) p.shard v w → Covered w os
+  last-released fits at = subst (Covered w) (append-nil os) (covered-beside v w os (p ∷ []) [] covered (releases v w p [] fits at) tt)
+
+  pub last-stays : (ticket : ℕ) → AtShard (WornOut ticket) p.shard v w → Covered w (os ++ p ∷ [])
+  last-stays ticket at = covered-same v w (os ++ p ∷ []) covered (faults (Worn ticket) p.shard v w (os ++ p ∷ []) at)

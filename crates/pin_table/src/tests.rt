@@ -134,8 +134,7 @@ impl<R: Recipe> Desk<R> {
                 self.turns = self.turns.saturating_add(1);
                 return Said::Clash;
             }
-            Err(MemoFault::Worn { ticket }) => return Said::Worn(ticket),
-            Err(MemoFault::Mem) => return Said::Mem,
+            Err(fault) => return said_of(&fault),
         }
     }
 
@@ -168,16 +167,7 @@ impl<R: Recipe> Desk<R> {
                 self.turns = self.turns.saturating_add(1);
                 return Said::Clash;
             }
-            Err(KeepRefused {
-                fault: MemoFault::Worn { ticket },
-                input: _,
-                out: _,
-            }) => return Said::Worn(ticket),
-            Err(KeepRefused {
-                fault: MemoFault::Mem,
-                input: _,
-                out: _,
-            }) => return Said::Mem,
+            Err(refused) => return said_of(&refused.fault),
         }
     }
 
@@ -220,9 +210,16 @@ impl<R: Recipe> Desk<R> {
                 self.turns = self.turns.saturating_add(1);
                 return Said::Swept(dropped);
             }
-            Err(MemoFault::Worn { ticket }) => return Said::Worn(ticket),
-            Err(MemoFault::Mem) => return Said::Mem,
+            Err(fault) => return said_of(&fault),
         }
+    }
+}
+
+// What a fault says.
+fn said_of(fault: &MemoFault) -> Said {
+    match fault {
+        MemoFault::Worn { ticket } => Said::Worn(*ticket),
+        MemoFault::Mem => Said::Mem,
     }
 }
 
@@ -397,12 +394,12 @@ fn works<W: Wait>(rt: &W, memo: &Memo<Twice>, desk: &mut Desk<Twice>, rounds: u6
     ensures covered { Covered desk.new.caller (names_of Twice.digest_of desk.new.pins.items) }
 {
     'rounds: for round in 0..rounds {
-        turn(rt, memo, desk, round);
+        play_round(rt, memo, desk, round);
     }
 }
 
 // One round.
-fn turn<W: Wait>(rt: &W, memo: &Memo<Twice>, desk: &mut Desk<Twice>, round: u64)
+fn play_round<W: Wait>(rt: &W, memo: &Memo<Twice>, desk: &mut Desk<Twice>, round: u64)
     requires of { desk.old.caller.locks ≡ memo.now.locks }
     requires covered { Covered desk.old.caller (names_of Twice.digest_of desk.old.pins.items) }
     ensures of { desk.new.caller.locks ≡ memo.now.locks }
