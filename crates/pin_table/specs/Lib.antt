@@ -6,3 +6,4 @@ pub mod Ends
 pub mod Lasting
 pub mod Covers
 pub mod Closing
+pub mod Spread

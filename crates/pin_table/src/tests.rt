@@ -1,6 +1,6 @@
-ghost use Rattle.std.specs.Prelude.{◌≡◌, ◌*◌, ◌%◌, ◌∷◌, [], ◌<◌, ◌≤◌, length, vec_len, All};
-ghost use Rattle.pin_table.specs.Views.{MemoView};
+ghost use Rattle.std.specs.Prelude.{◌≡◌, ◌+◌, ◌*◌, ◌%◌, ◌∷◌, [], ◌<◌, vec_len, All, IfOk};
 ghost use Rattle.pin_table.specs.Covers.{Covered, names_of};
+ghost use Rattle.pin_table.specs.Spread.{spread};
 
 use super::*;
 use memo_core::{Event, replay};
@@ -45,13 +45,15 @@ impl Recipe for OneDigest {
 struct Twice;
 
 impl Recipe for Twice {
+    ghost use Rattle.pin_table.specs.Spread.{spread};
+
     type In = u64;
 
     type Out = u64;
 
     ghost fits = { λ input out. out ≡ 2 * input };
 
-    ghost digest_of = { λ input. 7 ∷ (input % 256) ∷ 0 ∷ 0 ∷ 0 ∷ 0 ∷ 0 ∷ 0 ∷ 0 ∷ 0 ∷ 0 ∷ 0 ∷ 0 ∷ 0 ∷ 0 ∷ 0 ∷ 0 ∷ 0 ∷ 0 ∷ 0 ∷ 0 ∷ 0 ∷ 0 ∷ 0 ∷ 0 ∷ 0 ∷ 0 ∷ 0 ∷ 0 ∷ 0 ∷ 0 ∷ 0 ∷ [] };
+    ghost digest_of = { spread };
 
     fn digest(input: &u64) -> [u8; 32] {
         let second = (*input % 256) as u8;
@@ -389,9 +391,9 @@ fn inputs_stand_in_the_shards_of_their_digests(rt: HostRuntime) -> Result<(), Fa
 // Looks, keeps what is absent, gives pins up and sweeps, over and over.
 fn works<W: Wait>(rt: &W, memo: &Memo<Twice>, desk: &mut Desk<Twice>, rounds: u64)
     requires of { desk.old.caller.locks ≡ memo.now.locks }
-    requires covered { Covered desk.old.caller (names_of Twice.digest_of desk.old.pins.items) }
+    requires covered { Covered desk.old.caller (names_of spread desk.old.pins.items) }
     ensures of { desk.new.caller.locks ≡ memo.now.locks }
-    ensures covered { Covered desk.new.caller (names_of Twice.digest_of desk.new.pins.items) }
+    ensures covered { Covered desk.new.caller (names_of spread desk.new.pins.items) }
 {
     'rounds: for round in 0..rounds {
         play_round(rt, memo, desk, round);
@@ -401,9 +403,9 @@ fn works<W: Wait>(rt: &W, memo: &Memo<Twice>, desk: &mut Desk<Twice>, rounds: u6
 // One round.
 fn play_round<W: Wait>(rt: &W, memo: &Memo<Twice>, desk: &mut Desk<Twice>, round: u64)
     requires of { desk.old.caller.locks ≡ memo.now.locks }
-    requires covered { Covered desk.old.caller (names_of Twice.digest_of desk.old.pins.items) }
+    requires covered { Covered desk.old.caller (names_of spread desk.old.pins.items) }
     ensures of { desk.new.caller.locks ≡ memo.now.locks }
-    ensures covered { Covered desk.new.caller (names_of Twice.digest_of desk.new.pins.items) }
+    ensures covered { Covered desk.new.caller (names_of spread desk.new.pins.items) }
 {
     let input = round % 20;
     if desk.look(rt, memo, round, &input) == Said::Absent {
@@ -427,8 +429,8 @@ fn threads_share_one_history_a_shard(rt: HostRuntime) -> Result<(), Fail> {
         desks.as_mut_slice(),
         threads,
         &|_, desk: &mut Desk<Twice>|
-            requires { (desk.now.caller.locks ≡ memo.locks) × Covered desk.now.caller (names_of Twice.digest_of desk.now.pins.items) }
-            ensures { (desk.exit.now.caller.locks ≡ memo.locks) × Covered desk.exit.now.caller (names_of Twice.digest_of desk.exit.now.pins.items) }
+            requires { (desk.now.caller.locks ≡ memo.locks) × Covered desk.now.caller (names_of spread desk.now.pins.items) }
+            ensures { (desk.exit.now.caller.locks ≡ memo.locks) × Covered desk.exit.now.caller (names_of spread desk.exit.now.pins.items) }
         { works(&rt, &memo, desk, rounds) },
     );
     let mut made = Vec::new(rt.alloc());
