@@ -23,8 +23,8 @@ impl Recipe for Twice {
     fn digest(input: &u64) -> [u8; 32] {
         let second = (*input % 256) as u8;
         [
-            7, second, 0, 0, 0, 0, 0, 0, 0, 0, 0, 0, 0, 0, 0, 0, 0, 0, 0, 0, 0, 0, 0, 0, 0, 0, 0, 0, 0,
-            0, 0, 0,
+            7, second, 0, 0, 0, 0, 0, 0, 0, 0, 0, 0, 0, 0, 0, 0, 0, 0, 0, 0, 0, 0, 0, 0, 0, 0, 0,
+            0, 0, 0, 0, 0,
         ]
     }
 
@@ -68,7 +68,16 @@ fn an_unheld_entry_stays_for_so_many_runs(rt: HostRuntime) -> Result<(), Fail> {
     };
     assert!(rt; shards.len() == 2);
     let last = shards[1].history().last();
-    assert!(rt; matches!(last, Some(Event::Sweep { horizon: 6, dropped: 1, .. })));
+    assert!(rt;
+        matches!(
+            last,
+            Some(Event::Sweep {
+                horizon: 6,
+                dropped: 1,
+                ..
+            })
+        )
+    );
     Ok(())
 }
 

@@ -206,6 +206,7 @@ move n s e v w fits numbered at i id = place_case (s == i) refl
   where
     number : w.number ≡ v.number
     number = ap (λ (c : CallerView). c.number) at.same
+
     place_case : (b : Bool) → (s == i) ≡ b → held_at i id w + cond (b && frees id e) 1 0 ≡ held_at i id v + cond (b && gives id e) 1 0
     place_case true is =
         let e_is : s ≡ i = grind (arith, nat_tests) in
@@ -283,6 +284,7 @@ lets-go ticket v w p ps at =
   where
     none_there : (known_at p.shard w).shown ≡ 0 → ⊥
     none_there shown = let g = goes-there (WornOut ticket) p.shard v w at in let a = g.limit in let b = g.shown in omega (arith, a, b, shown)
+
     place_case : (i id : ℕ) → (known_at i w).shown ≡ 0 → held_at i id w ≡ held_at i id v → held_at i id v + count i id ps ≡ held_at i id w + count i id (p ∷ ps)
     place_case i id shown same = on_case (p.shard == i) refl
       where

@@ -51,6 +51,7 @@ cuts-start locks (c ∷ cs) same = (record { number = refl; locks_are = same 0 c
     all_taken : (ls : List TableId) → take (length ls) ls ≡ ls
     all_taken [] = refl
     all_taken (l ∷ ls) = ap (λ (xs : List TableId). l ∷ xs) (all_taken ls)
+
     append_nothing : (ks : List ShardKnown) → ks ++ [] ≡ ks
     append_nothing [] = refl
     append_nothing (k ∷ ks) = ap (λ (xs : List ShardKnown). k ∷ xs) (append_nothing ks)
@@ -94,10 +95,11 @@ pub cut-one : (locks : List TableId) (k : ℕ) (old c d : CallerView) (p : PassV
 cut-one locks k old c d p lt cut gave =
     let last = taken-last locks d.locks p.lock k lt (sym cut.locks_are ∙ gave.locks) in
     let shards : old.shards ≡ (d.shards ++ known_of p.known ∷ []) ++ cut.rest = cut.shards ∙ ap (λ (ks : List ShardKnown). ks ++ cut.rest) gave.shards in
-    let many : length d.shards ≡ k = gave.count ∙ (ap length last.0 ∙ length-taken locks k (omega (arith, lt))) in
-    (record { number = gave.number.0 ∙ cut.number; locks_are = last.0; rest = known_of p.known ∷ cut.rest; shards = shards ∙ append_assoc d.shards (known_of p.known ∷ []) cut.rest },
-     record { number = gave.number.1 ∙ cut.number; known = ap (λ (ks : List ShardKnown). get_or ks k nothing) shards ∙ get-middle d.shards cut.rest (known_of p.known) nothing k many },
-     sym last.1)
+    let many : length d.shards ≡ k = gave.count ∙ (ap length last.0 ∙ length-taken locks k (omega (arith, lt))) in (
+      record { number = gave.number.0 ∙ cut.number; locks_are = last.0; rest = known_of p.known ∷ cut.rest; shards = shards ∙ append_assoc d.shards (known_of p.known ∷ []) cut.rest },
+      record { number = gave.number.1 ∙ cut.number; known = ap (λ (ks : List ShardKnown). get_or ks k nothing) shards ∙ get-middle d.shards cut.rest (known_of p.known) nothing k many },
+      sym last.1,
+    )
 
 pub cuts-one : (locks : List TableId) (k : ℕ) (olds cs ds : List CallerView) (ps : List (PassView Turn)) → k < length locks → Cuts locks (suc k) olds cs → Gives cs ds ps → Cuts locks k olds ds × Handed k olds ps × All (λ p. p.lock ≡ get_or locks k p.lock) ps
 cuts-one locks k [] [] [] [] lt cut gave = (tt, tt, λ i d lt. absurd (omega (arith, lt)))

@@ -66,8 +66,10 @@ fewer n id k fits = some_case (replayed k.seen) refl fits.legal
   where
     got : how_many (gives_pin n id) k.mine ≡ how_many (gives_pin n id) k.seen
     got = ap (how_many (gives_pin n id)) (sym fits.same) ∙ count-own n (gives_pin n id) (gives_pin n id) (λ e. gives-of n id e ∙ (and_again (caller_of e == n) (gives id e) ∙ ap (λ b. (caller_of e == n) && b) (sym (gives-of n id e)))) k.seen
+
     gave : how_many (is_release n id) k.mine ≡ how_many (is_release n id) k.seen
     gave = ap (how_many (is_release n id)) (sym fits.same) ∙ count-own n (is_release n id) (is_release n id) (λ e. frees-of n id e ∙ (and_again (caller_of e == n) (frees id e) ∙ ap (λ b. (caller_of e == n) && b) (sym (frees-of n id e)))) k.seen
+
     some_case : (o : Option CoreState) → replayed k.seen ≡ o → IsSome o → how_many (is_release n id) k.mine ≤ how_many (gives_pin n id) k.mine
     some_case None is some = cc
     some_case (Some s) is some = let few = given_before_released k.seen s is n id in omega (arith, few, got, gave)
@@ -89,6 +91,7 @@ held-live n id k fits h = some_case (replayed k.seen) refl fits.legal
   where
     same : held n id k.mine ≡ held n id k.seen
     same = ap (held n id) (sym fits.same) ∙ held-own n id k.seen
+
     some_case : (o : Option CoreState) → replayed k.seen ≡ o → IsSome o → (s : CoreState) × (e : CoreEntry) × (replayed k.seen ≡ Some s) × (find_id id s.entries ≡ Some e) × (how_many (λ c. c == n) e.pins ≡ held n id k.mine)
     some_case None is some = cc
     some_case (Some s) is some = let live = pinned_is_live k.seen s is n id (subst (λ m. 0 < m) same h) in (s, live.0, is, live.1, live.2 ∙ sym same)
@@ -149,6 +152,7 @@ pub answers-exact : AnswersAreExact
 answers-exact n run digest v w = (look-says n run digest v w, keep-says n run digest v w)
 
 pub held-found : HeldIsFound
-held-found n id run digest v w fits h said =
-    (λ a g is. not-both g.state id digest (live-before n id digest _ v w g fits h said) (subst (λ (x : LookAnswer). LookSays g.state digest x) is (look-says n run digest v w a g)),
-     λ a i g is. not-both g.state id digest (live-before n id digest _ v w g fits h said) (subst (λ (x : KeepAnswer). KeepSays g.state digest x) is (keep-says n run digest v w a g)))
+held-found n id run digest v w fits h said = (
+  λ a g is. not-both g.state id digest (live-before n id digest _ v w g fits h said) (subst (λ (x : LookAnswer). LookSays g.state digest x) is (look-says n run digest v w a g)),
+  λ a i g is. not-both g.state id digest (live-before n id digest _ v w g fits h said) (subst (λ (x : KeepAnswer). KeepSays g.state digest x) is (keep-says n run digest v w a g)),
+)

@@ -59,10 +59,7 @@ impl<R: Recipe> Memo<R> {
 }
 
 // So many callers, numbered from 0, that have no pass yet.
-fn without_passes<R: Recipe>(
-    alloc: Global,
-    callers: u32,
-) -> Result<Vec<Caller<R>>, AllocError>
+fn without_passes<R: Recipe>(alloc: Global, callers: u32) -> Result<Vec<Caller<R>>, AllocError>
     ensures { IfOk result (λ all. (vec_len all ≡ callers) × AreNewcomers [] all.items) }
 {
     let mut all = Vec::with_capacity(alloc, callers as usize)?;

@@ -107,10 +107,12 @@ impl<R: Recipe> Memo<R> {
             Ok(ShardReply::Look(_)) => unreachable!(),
             Ok(ShardReply::Release) => unreachable!(),
             Ok(ShardReply::Sweep(_)) => unreachable!(),
-            Err(Turned::Worn {
-                ticket,
-                op: ShardOp::Keep { run: _, input, out },
-            }) => {
+            Err(
+                Turned::Worn {
+                    ticket,
+                    op: ShardOp::Keep { run: _, input, out },
+                },
+            ) => {
                 return Err(KeepRefused {
                     fault: MemoFault::Worn { ticket },
                     input,
