@@ -17,10 +17,11 @@ pub enum ShardOp<R: Recipe> {
 }
 
 /// What a turn on a shard answers: the answer of the call.
+// In this order of variants the kit proves, in the crates above, that a list of passes may be dropped.
 #[derive(Drop)]
 pub enum ShardReply<R: Recipe> {
-    Look(Result<ShardLook<R>, AllocError>),
     Keep(Result<ShardKeep<R>, (AllocError, R::In, R::Out)>),
+    Look(Result<ShardLook<R>, AllocError>),
     Release,
     Sweep(Result<u64, AllocError>),
 }

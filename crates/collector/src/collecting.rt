@@ -1,0 +1,72 @@
+//! The collector and its sweeps.
+ghost use Rattle.std.specs.Prelude.{◌≡◌, ◌<◌, length, IfOk, IfErr};
+ghost use Rattle.memo_core.specs.declared.event.Event.TheVariants.{Sweep};
+ghost use Rattle.pin_table.specs.Known.{Gained, AtShard};
+ghost use Rattle.pin_table.specs.Answers.{Faults};
+ghost use Rattle.collector.specs.Collectors.{horizon_of};
+
+use memo_server::Recipe;
+use pin_table::{Caller, Memo, MemoFault};
+use std::marker::Model;
+use std::sync::Wait;
+
+/// A caller that sweeps: an entry that nobody holds is kept for `keep` runs after the last that used it.
+#[derive(Drop)]
+pub struct Collector<R: Recipe> {
+    caller: Caller<R>,
+    keep: u64,
+}
+
+impl<R: Recipe> Model for Collector<R> {
+    ghost use Rattle.collector.specs.Collectors.{CollectorView};
+
+    ghost Value = { CollectorView };
+
+    ghost view = { λ c. record { caller = c.caller; keep = c.keep } };
+}
+
+impl<R: Recipe> Collector<R> {
+    /// A collector that calls as this caller.
+    pub fn new(caller: Caller<R>, keep: u64) -> Collector<R>
+        ensures { (result.caller ≡ caller) × (result.keep ≡ keep) }
+    {
+        Collector { caller, keep }
+    }
+
+    /// The run below which an entry that nobody holds goes: `run - keep`, or 0 where `keep` is larger.
+    pub fn horizon(&self, run: u64) -> u64
+        ensures { result ≡ horizon_of self.now.keep run }
+    {
+        run.saturating_sub(self.keep)
+    }
+
+    /// The caller again, as `Memo::close` wants it.
+    pub fn into_caller(self) -> Caller<R>
+        ensures { result ≡ self.caller }
+    {
+        let Collector { caller, keep: _ } = self;
+        caller
+    }
+
+    /// One sweep of the shard at the horizon of the run. It answers how many entries went. It may wait for its turn.
+    ///
+    /// # Errors
+    ///
+    /// `Worn` where the ticket of the shard's lock stood at 2^62 or more at this call's check, and `Mem`. Nothing was swept.
+    pub fn sweep_shard<W: Wait>(
+        &mut self,
+        rt: &W,
+        memo: &Memo<R>,
+        run: u64,
+        shard: u32,
+    ) -> Result<u64, MemoFault>
+        requires of { self.old.caller.locks ≡ memo.now.locks }
+        requires shard { shard < length memo.now.locks }
+        ensures keep { self.new.keep ≡ self.old.keep }
+        ensures swept { IfOk result (λ dropped. AtShard (Gained self.old.caller.number (Sweep self.old.caller.number (horizon_of self.old.keep run) dropped)) shard self.old.caller self.new.caller) }
+        ensures fault { IfErr result (λ fault. Faults fault shard self.old.caller self.new.caller) }
+    {
+        let horizon = self.horizon(run);
+        memo.sweep(rt, &mut self.caller, shard, horizon)
+    }
+}

@@ -1,0 +1,57 @@
+-- Passes that are handed out from the last one on.
+use Rattle.std.proofs.Common.{◌≡◌, ◌≢◌, ℕ, zero, suc, ◌+◌, ◌<◌, ◌≤◌, List, [], ◌∷◌, ◌++◌, length, get_or, set, map, take, drop, Some, slice_get, All, refl, sym, ap, subst, ◌∙◌, arith, add-one, length-append}
+use lib.Seq.{get_or-set_other}
+use mathlib.Core.Option.{some, some-injective}
+use lib.ListN.{get_elem?}
+use Rattle.atomic_table.specs.Seated.{TableId}
+use Rattle.turn_lock.specs.Views.{PassView, unplayed}
+use Rattle.turn_lock.proofs.Views.{at_first, at_length}
+use Rattle.memo_server.specs.declared.turn.Turn.{Turn}
+use Rattle.pin_table.specs.Views.{CallerView, with_lock}
+use Rattle.pin_table.proofs.Places.{at-get, at-taken, set-taken, get-at, read-at}
+
+elem-last : {A : Type 0} (xs : List A) (x : A) → get_elem? (xs ++ x ∷ []) (length xs) ≡ some x
+elem-last [] x = refl
+elem-last (y ∷ xs) x = elem-last xs x
+
+elem-front : {A : Type 0} (xs : List A) (x a : A) (i : ℕ) → get_elem? xs i ≡ some a → get_elem? (xs ++ x ∷ []) i ≡ some a
+elem-front xs x a i at = at_first xs (x ∷ []) a i at
+
+-- The last pass has the number of its place.
+pub last-pass : (ps qs : List (PassView Turn)) (p : PassView Turn) (n : ℕ) → ps ≡ qs ++ p ∷ [] → n ≡ length qs → ((i : ℕ) (p : PassView Turn) → get_elem? ps i ≡ some p → p ≡ unplayed p.lock i) → p ≡ unplayed p.lock n
+last-pass ps qs p n is at fresh = fresh n p (ap (λ (l : List (PassView Turn)). get_elem? l n) is ∙ (ap (get_elem? (qs ++ p ∷ [])) at ∙ elem-last qs p))
+
+pub fresh-rest : (ps qs : List (PassView Turn)) (p : PassView Turn) → ps ≡ qs ++ p ∷ [] → ((i : ℕ) (p : PassView Turn) → get_elem? ps i ≡ some p → p ≡ unplayed p.lock i) → (i : ℕ) (q : PassView Turn) → get_elem? qs i ≡ some q → q ≡ unplayed q.lock i
+fresh-rest ps qs p is fresh i q at = fresh i q (ap (λ (l : List (PassView Turn)). get_elem? l i) is ∙ elem-front qs p q i at)
+
+get-front : {A : Type 0} (xs : List A) (x d : A) (k : ℕ) → k < length xs → get_or (xs ++ x ∷ []) k d ≡ get_or xs k d
+get-front [] x d k lt = absurd (omega (arith, lt))
+get-front (y ∷ xs) x d zero lt = refl
+get-front (y ∷ xs) x d (suc k) lt = get-front xs x d k (omega (arith, lt))
+
+get-last : {A : Type 0} (xs : List A) (x d : A) → get_or (xs ++ x ∷ []) (length xs) d ≡ x
+get-last [] x d = refl
+get-last (y ∷ xs) x d = get-last xs x d
+
+module _ (id : TableId) (ps qs : List (PassView Turn)) (p : PassView Turn) (is : ps ≡ qs ++ p ∷ []) (all : All (λ p. p.lock ≡ id) ps) where
+  pub locks-rest : All (λ p. p.lock ≡ id) qs
+  locks-rest k d lt = ap (λ (p : PassView Turn). p.lock) (sym (ap (λ (l : List (PassView Turn)). get_or l k d) is ∙ get-front qs p d k lt)) ∙ all k d (subst (λ (l : List (PassView Turn)). k < length l) (sym is) (let h = length-append qs (p ∷ []) in omega (arith, lt, h)))
+
+  pub lock-last : p.lock ≡ id
+  lock-last = ap (λ (p : PassView Turn). p.lock) (sym (ap (λ (l : List (PassView Turn)). get_or l (length qs) p) is ∙ get-last qs p p)) ∙ all (length qs) p (subst (λ (l : List (PassView Turn)). length qs < length l) (sym is) (let h = length-append qs (p ∷ []) in omega (arith, h)))
+
+module _ (xs now : List CallerView) (n m : ℕ) (x : CallerView) (one : n + 1 ≡ m) (inside : n < length xs) (front : (i : ℕ) (d : CallerView) → i < m → get_or now i d ≡ get_or xs i d) (is : x ≡ get_or now n x) where
+  pub was : x ≡ get_or xs n x
+  was = is ∙ front n x (omega (arith, one))
+
+  pub was-at : slice_get xs n ≡ Some x
+  was-at = read-at xs n x inside was
+
+  pub front-rest : (y : CallerView) (i : ℕ) (d : CallerView) → i < n → get_or (set now n y) i d ≡ get_or xs i d
+  front-rest y i d lt = get_or-set_other now n i y d (λ (e : i ≡ n). omega (arith, e, lt)) ∙ front i d (omega (arith, one, lt))
+
+  pub one-more : (id : TableId) (y : CallerView) → now ≡ take m xs ++ map (with_lock id) (drop m xs) → y ≡ with_lock id x → set now n y ≡ take n xs ++ map (with_lock id) (drop n xs)
+  one-more id y before new =
+      let suc_is : m ≡ suc n = omega (arith, one) in
+      let before_suc : now ≡ take (suc n) xs ++ map (with_lock id) (drop (suc n) xs) = subst (λ (k : ℕ). now ≡ take k xs ++ map (with_lock id) (drop k xs)) suc_is before in
+      ap (λ (l : List CallerView). set l n y) before_suc ∙ (ap (λ (z : CallerView). set (take (suc n) xs ++ map (with_lock id) (drop (suc n) xs)) n z) (new ∙ ap (with_lock id) was) ∙ set-taken (with_lock id) xs n x inside)

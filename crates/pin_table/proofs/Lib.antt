@@ -1,0 +1,10 @@
+pub mod Places
+pub mod Gains
+pub mod Turns
+pub mod Replies
+pub mod Holds
+pub mod Dealt
+pub mod Newcomers
+pub mod Giving
+pub mod Handed
+pub mod Covering

@@ -1,0 +1,29 @@
+//! A memo that callers in several threads share: 1 to 8 shards, each behind a turn lock of its own, and pins.
+//!
+//! Start at [`Memo::new`], then [`Memo::look`] and [`Memo::keep`], whose answers carry a [`Pin`], then [`Memo::release`].
+//! A call takes one turn at one shard, whose input's digest is computed before it; nothing in it grows with the number of entries,
+//! but for `sweep`, which walks them. Each call that succeeds is one event of its shard's history, which is legal.
+//! Nothing is promised of the order of turns at two shards, or that a turn ever comes.
+#![tactic(auto)]
+
+mod answers;
+mod caller;
+mod closing;
+mod covers;
+mod laws;
+mod making;
+mod memo;
+mod pin;
+mod placing;
+mod turning;
+
+pub use answers::{KeepRefused, Kept, Looked, MemoFault};
+pub use caller::Caller;
+pub use covers::{answers_balance, balances_add_up, faults_balance, releases_balance};
+pub use laws::{answers_are_exact, held_follows, held_is_found, held_is_live, turns_keep};
+pub use memo::Memo;
+pub use pin::Pin;
+pub use placing::shard_of;
+
+#[cfg(test)]
+mod tests;
