@@ -1,0 +1,4 @@
+pub mod OneFile
+pub mod PlaceLaws
+pub mod TextLaws
+pub mod BucketLaws

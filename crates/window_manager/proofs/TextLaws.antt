@@ -1,0 +1,40 @@
+-- The text of leaves.
+use Rattle.std.proofs.Common.{◌≡◌, ℕ, zero, suc, ◌+◌, ◌-◌, ◌<◌, ◌≤◌, List, [], ◌∷◌, ◌++◌, length, take, drop, get_or, refl, sym, ap, ◌∙◌, arith, append_assoc, append-nil, take-append-drop}
+use Rattle.std.proofs.lemmas.Grind.{common_steps}
+use Rattle.std.proofs.lemmas.List.{take_more}
+use Rattle.definitions.specs.Records.{text_of}
+use Rattle.marker_chunker.specs.Cuts.{joined}
+use Rattle.marker_chunker.proofs.CutLaws.{joined_append}
+use Rattle.window_manager.specs.Windows.{Leaf, with_late}
+use Rattle.window_manager.specs.Buckets.{text_size}
+
+pub length_append : (a b : List ℕ) → length (a ++ b) ≡ length a + length b
+length_append a b = grind (arith, common_steps)
+
+pub text_append : (a b : List (List ℕ)) → length (text_of (a ++ b)) ≡ length (text_of a) + length (text_of b)
+text_append [] b = omega arith
+text_append (r ∷ a) b =
+    let rest = text_append a b in
+    omega (arith, rest, length_append r (10 ∷ text_of (a ++ b)), length_append r (10 ∷ text_of a))
+
+pub size_append : (a b : List Leaf) → text_size (a ++ b) ≡ text_size a + text_size b
+size_append a b = ap (λ (l : List (List ℕ)). length (text_of l)) (joined_append a b) ∙ text_append (joined a) (joined b)
+
+pub size_one : (l : Leaf) → text_size (l ∷ []) ≡ length (text_of l)
+size_one l = ap (λ (rs : List (List ℕ)). length (text_of rs)) (append-nil l)
+
+-- the text of the first leaves and of the others
+pub size_cut : (n : ℕ) (leaves : List Leaf) → text_size (take n leaves) + text_size (drop n leaves) ≡ text_size leaves
+size_cut n leaves = sym (size_append (take n leaves) (drop n leaves)) ∙ ap text_size (take-append-drop n leaves)
+
+-- one leaf more in front
+pub size_front : (leaves : List Leaf) (i : ℕ) (leaf : Leaf) → i < length leaves → leaf ≡ get_or leaves i leaf → text_size (take (i + 1) leaves) ≡ text_size (take i leaves) + length (text_of leaf)
+size_front leaves i leaf lt is =
+    ap text_size (take_more leaves i leaf lt) ∙ size_append (take i leaves) (get_or leaves i leaf ∷ [])
+    ∙ ap (λ (l : Leaf). text_size (take i leaves) + text_size (l ∷ [])) (sym is)
+    ∙ ap (λ (n : ℕ). text_size (take i leaves) + n) (size_one leaf)
+
+-- no list of records has more records than its text has bytes
+pub count_size : (rs : List (List ℕ)) → length rs ≤ length (text_of rs)
+count_size [] = omega arith
+count_size (r ∷ rs) = omega (arith, count_size rs, length_append r (10 ∷ text_of rs))

@@ -1,0 +1,4 @@
+pub mod Windows
+pub mod OlderRule
+pub mod Slides
+pub mod Buckets

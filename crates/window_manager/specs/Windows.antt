@@ -1,0 +1,164 @@
+-- Windows: what they hold, what a command makes of them, and what they refuse.
+use Rattle.std.specs.Prelude.{ℕ, zero, suc, ◌+◌, ◌-◌, Bool, true, false, not, ◌&&◌, ◌||◌, nat_le, nat_lt, if◌then◌else◌, List, [], ◌∷◌, ◌++◌, length, take, drop, unwrap_or, Option}
+use Rattle.std.specs.declared.option.Option.TheVariants.{Some, None}
+use Rattle.std.specs.Ordering.{eq_by_cmp}
+use Rattle.std.specs.FinMap.Entries.{find, put, where_key}
+use Rattle.definitions.specs.Records.{text_of}
+use Rattle.marker_chunker.specs.Cuts.{chunks_of, joined}
+use Rattle.record_text.specs.Names.{name_cmp}
+use Rattle.record_text.specs.declared.kind.Kind.{Kind}
+use Rattle.record_text.specs.declared.kind.Kind.TheVariants as Kinds
+use Rattle.record_text.specs.declared.command.Command.{Command}
+use Rattle.record_text.specs.declared.command.Command.TheVariants.{Bucket, Drop, Late, File, Remove, Edit, Load, Run}
+use Rattle.window_manager.specs.declared.fault.WindowFault.{WindowFault}
+use Rattle.window_manager.specs.declared.fault.WindowFault.TheVariants.{NotHere, TooMany, BadRecord, WindowLarge}
+
+-- a leaf: a list of records
+abbrev pub Leaf : Type 0
+Leaf = List (List ℕ)
+
+-- files with their records, in the byte order of their names, none without records
+abbrev pub Files : Type 0
+Files = List (List ℕ × List (List ℕ))
+
+-- the records of a file: none where it is not in the list
+abbrev pub records_in : Files → List ℕ → List (List ℕ)
+records_in files name = unwrap_or (find name_cmp name files) []
+
+-- the files without the one of this name
+abbrev pub without_file : Files → List ℕ → Files
+without_file files name = where_key name_cmp (λ other. not (eq_by_cmp name_cmp name other)) files
+
+-- the files, where the one of this name has these records: one left without records goes
+abbrev pub with_file : Files → List ℕ → List (List ℕ) → Files
+with_file files name [] = without_file files name
+with_file files name (r ∷ rs) = put name_cmp name (r ∷ rs) files
+
+-- files are cut into chunks one by one: no chunk spans two files
+abbrev pub chunks_in : Files → List Leaf
+chunks_in [] = []
+chunks_in (f ∷ fs) = chunks_of f.1 ++ chunks_in fs
+
+-- what a window holds: its kind, how many places a circle has, its leaves, and of a document its files and the name of
+-- the current one. The leaves of a document are the chunks of its files
+pub record WindowState : Type 0 where
+  pub kind : Kind
+  pub places : ℕ
+  pub leaves : List Leaf
+  pub files : Files
+  pub current : List ℕ
+
+-- a window before its first command
+abbrev pub empty_window : Kind → ℕ → WindowState
+empty_window kind places = record { kind = kind; places = places; leaves = []; files = []; current = [] }
+
+-- the records of a window: those of its leaves, end to end
+abbrev pub present : WindowState → List (List ℕ)
+present w = joined w.leaves
+
+-- the last `n` of a list, or all where there are fewer
+abbrev pub last_of : {A : Type 0} → ℕ → List A → List A
+last_of n xs = drop (length xs - n) xs
+
+-- the leaves with one more behind them: a circle keeps as many as it has places
+abbrev pub with_leaf : Kind → ℕ → List Leaf → Leaf → List Leaf
+with_leaf Kinds.Circle places leaves leaf = last_of places (leaves ++ leaf ∷ [])
+with_leaf kind places leaves leaf = leaves ++ leaf ∷ []
+
+-- the leaves with records added at the end of one, by its place
+abbrev pub with_late : ℕ → List (List ℕ) → List Leaf → List Leaf
+with_late place more [] = []
+with_late zero more (leaf ∷ leaves) = (leaf ++ more) ∷ leaves
+with_late (suc place) more (leaf ∷ leaves) = leaf ∷ with_late place more leaves
+
+-- the records with `del` of them from place `at` on replaced
+abbrev pub spliced : ℕ → ℕ → List (List ℕ) → List (List ℕ) → List (List ℕ)
+spliced at del ins records = take at records ++ (ins ++ drop (at + del) records)
+
+-- the document with these files
+abbrev pub with_files : WindowState → Files → WindowState
+with_files w files = record w { leaves = chunks_in files; files = files }
+
+-- the records of the current file
+abbrev pub current_records : WindowState → List (List ℕ)
+current_records w = records_in w.files w.current
+
+-- the document whose current file has these records
+abbrev pub with_current : WindowState → List (List ℕ) → WindowState
+with_current w records = with_files w (with_file w.files w.current records)
+
+-- the window after a command
+abbrev pub window_after : WindowState → Command → WindowState
+window_after w (Bucket records) = record w { leaves = with_leaf w.kind w.places w.leaves records }
+window_after w (Drop n) = record w { leaves = drop n w.leaves }
+window_after w (Late place more) = record w { leaves = with_late place more w.leaves }
+window_after w (File name) = record w { current = name }
+window_after w (Remove name) = with_files w (without_file w.files name)
+window_after w (Edit at del ins) = with_current w (spliced at del ins (current_records w))
+window_after w (Load records) = with_current w records
+window_after w Run = w
+
+-- which commands a kind has
+abbrev pub has_command : Kind → Command → Bool
+has_command Kinds.Buckets (Bucket records) = true
+has_command Kinds.Buckets (Drop n) = true
+has_command Kinds.Buckets (Late place more) = true
+has_command Kinds.Circle (Bucket records) = true
+has_command Kinds.Circle (Late place more) = true
+has_command Kinds.Growing (Bucket records) = true
+has_command Kinds.Document (File name) = true
+has_command Kinds.Document (Remove name) = true
+has_command Kinds.Document (Edit at del ins) = true
+has_command Kinds.Document (Load records) = true
+has_command kind command = false
+
+-- whether a kind lets the oldest leaf go for a new one
+abbrev pub is_circle : Kind → Bool
+is_circle Kinds.Circle = true
+is_circle kind = false
+
+-- whether more files have records than may
+abbrev pub too_many_files : WindowState → Bool
+too_many_files w = nat_lt 65536 (length w.files)
+
+-- whether a command asks for more than there is, or than there may be
+abbrev pub asks_too_many : WindowState → Command → Bool
+asks_too_many w (Bucket records) = not (is_circle w.kind) && nat_le 65536 (length w.leaves)
+asks_too_many w (Drop n) = nat_lt (length w.leaves) n
+asks_too_many w (Late place more) = nat_le (length w.leaves) place
+asks_too_many w (Edit at del ins) = nat_lt (length (current_records w)) (at + del) || too_many_files (window_after w (Edit at del ins))
+asks_too_many w (Load records) = too_many_files (window_after w (Load records))
+asks_too_many w command = false
+
+-- the records that a command brings
+abbrev pub brought : Command → List (List ℕ)
+brought (Bucket records) = records
+brought (Late place more) = more
+brought (Edit at del ins) = ins
+brought (Load records) = records
+brought command = []
+
+-- the index of the first record that is not accepted, where the first of these has the index `at`
+abbrev pub refused_from : (List ℕ → Bool) → ℕ → List (List ℕ) → Option ℕ
+refused_from accepts at [] = None
+refused_from accepts at (r ∷ rs) = if accepts r then refused_from accepts (at + 1) rs else Some at
+
+-- the index of the first record that is not accepted
+abbrev pub first_refused : (List ℕ → Bool) → List (List ℕ) → Option ℕ
+first_refused accepts records = refused_from accepts 0 records
+
+-- whether a window has more text than it may have
+abbrev pub is_large : WindowState → Bool
+is_large w = nat_lt 268435456 (length (text_of (present w)))
+
+-- the refusal of a record, or else of the text that there would be
+abbrev pub record_refusal : Option ℕ → Bool → Option WindowFault
+record_refusal (Some index) large = Some (BadRecord index)
+record_refusal None large = if large then Some WindowLarge else None
+
+-- why a command is refused: the first reason in this order
+abbrev pub refusal_of : (List ℕ → Bool) → WindowState → Command → Option WindowFault
+refusal_of accepts w c =
+    if not (has_command w.kind c) then Some NotHere
+    else if asks_too_many w c then Some TooMany
+    else record_refusal (first_refused accepts (brought c)) (is_large (window_after w c))

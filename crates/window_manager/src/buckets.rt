@@ -1,0 +1,162 @@
+// A window of buckets: in a row, in a circle of places, or one that only grows.
+ghost use Rattle.std.specs.Prelude.{◌≡◌, ◌≢◌, ◌≤◌, ◌<◌, ◌+◌, ◌^◌, ◌&&◌, not, nat_le, [], length, false, drop, OnOk, OnErr, slice_index_or};
+ghost use Rattle.record_text.specs.declared.kind.Kind.TheVariants as Kinds;
+ghost use Rattle.record_text.specs.declared.command.Command.TheVariants.{Bucket, Drop, Late, Run};
+ghost use Rattle.window_manager.specs.Windows.{asks_too_many, is_circle, is_large, refusal_of, window_after};
+ghost use Rattle.window_manager.specs.Slides.{FitsCount, slide_of};
+ghost use Rattle.window_manager.specs.Buckets.{Applied, IsOfBuckets, buckets_after, buckets_anew, leaving, no_buckets, text_size};
+
+use crate::WindowFault;
+use crate::leaves::{forget_front, is_circle, leaving, text_of_front};
+use crate::records::{joined_records, records_refusal};
+use crate::slide::{mark_late, slide_on};
+use job_laws::Job;
+use record_text::{Bundle, Command, Kind, Places, Records, Shift};
+use std::alloc::{AllocError, Global};
+use std::collections::VecDeque;
+use std::marker::Model;
+
+/// How many buckets may stand, but for a circle.
+const MOST_LEAVES: usize = 65536;
+
+/// Buckets of records, the oldest first, seen with how they changed since the last run.
+#[derive(Drop)]
+pub struct BucketWindow {
+    kind: Kind,
+    places: u32,
+    leaves: VecDeque<Bundle>,
+    size: u64,
+    shift: Shift,
+}
+
+impl Model for BucketWindow {
+    ghost use Rattle.std.specs.Prelude.{[], length};
+    ghost use Rattle.window_manager.specs.Slides.{slid_by};
+    ghost use Rattle.window_manager.specs.Buckets.{AreKept, BucketView};
+
+    ghost Value = { BucketView };
+
+    ghost view = { λ b. record { window = record { kind = b.kind; places = b.places; leaves = b.leaves.items; files = []; current = [] }; slid = slid_by b.shift (length b.leaves.items) } };
+
+    ghost invariant = { λ b. AreKept (record { kind = b.kind; places = b.places; leaves = b.leaves.items; files = []; current = [] }) b.size b.shift };
+}
+
+impl BucketWindow {
+    /// No buckets. It takes no memory.
+    pub fn new(alloc: Global, kind: Kind, places: u32) -> BucketWindow
+        requires kind { kind ≢ Kinds.Document }
+        requires some { 1 ≤ places }
+        requires few { places ≤ 4096 }
+        ensures { result ≡ no_buckets kind places }
+    {
+        BucketWindow {
+            kind,
+            places,
+            leaves: VecDeque::new(alloc),
+            size: 0,
+            shift: Shift::Slide {
+                first: 0,
+                gone: 0,
+                places: Places::new(alloc),
+                fresh: 0,
+            },
+        }
+    }
+
+    /// How many buckets stand.
+    pub fn leaf_count(&self) -> usize
+        ensures count { result ≡ length self.now.window.leaves }
+        ensures window { IsOfBuckets self.now.window }
+    {
+        self.leaves.len()
+    }
+
+    /// A bucket, by its place.
+    pub fn leaf(&self, i: usize) -> &Bundle
+        requires { i < length self.now.window.leaves }
+        ensures { result.now ≡ slice_index_or self.now.window.leaves i [] }
+    {
+        &self.leaves[i]
+    }
+
+    /// How the buckets changed since the last run. It takes no memory.
+    pub fn shift(&self) -> &Shift
+        ensures slide { result.now ≡ slide_of (length self.now.window.leaves) self.now.slid }
+        ensures fits { FitsCount result.now (length self.now.window.leaves) }
+    {
+        &self.shift
+    }
+
+    /// A run was made over the buckets that stand.
+    pub fn run_done(&mut self, alloc: Global)
+        ensures { self.new ≡ buckets_anew self.old }
+    {
+        match &mut self.shift {
+            Shift::Slide {
+                gone,
+                places,
+                fresh,
+                ..
+            } => {
+                *gone = 0;
+                *places = Places::new(alloc);
+                *fresh = 0;
+            }
+            Shift::Splice { .. } => unreachable!(),
+        }
+    }
+
+    /// The kind of the window.
+    pub fn kind(&self) -> Kind
+        ensures { result ≡ self.now.window.kind }
+    {
+        self.kind
+    }
+
+    /// How many bytes of text stay where a new bucket comes.
+    fn kept(&self) -> u64
+        ensures kept { result ≡ text_size (drop (leaving self.now.window.kind self.now.window.places (length self.now.window.leaves)) self.now.window.leaves) }
+        ensures small { result ≤ 268435456 }
+        ensures window { IsOfBuckets self.now.window }
+    {
+        let went = leaving(self.kind, self.places, self.leaves.len());
+        self.size - text_of_front(&self.leaves, went)
+    }
+
+    /// Whether as many buckets stand as may.
+    fn is_full(&self) -> bool
+        ensures { result ≡ (not (is_circle self.now.window.kind) && nat_le 65536 (length self.now.window.leaves)) }
+    {
+        !is_circle(self.kind) && self.leaves.len() >= MOST_LEAVES
+    }
+
+    /// Why a new bucket is refused.
+    fn bucket_refusal<J: Job>(&self, records: &Records, job: &J) -> Option<WindowFault>
+        ensures { result ≡ refusal_of (J.accepts (J.setting job.now)) self.now.window (Bucket records.now) }
+    {
+        let kept = self.kept();
+        if self.is_full() {
+            return Some(WindowFault::TooMany);
+        }
+        records_refusal(job, records, kept)
+    }
+
+    /// A new bucket comes.
+    fn push(&mut self, alloc: Global, records: Records) -> Result<(), AllocError>
+        requires many { asks_too_many self.old.window (Bucket records) ≡ false }
+        requires large { is_large (window_after self.old.window (Bucket records)) ≡ false }
+        requires accepted { self.old.slid.accepted < 2 ^ 63 }
+        ensures ok { OnOk result (self.new ≡ buckets_after self.old (Bucket records)) }
+        ensures err { OnErr result (self.new ≡ self.old) }
+    {
+        let went = leaving(self.kind, self.places, self.leaves.len());
+        let size = self.kept() + records.text_len();
+        let bundle = Bundle::of(alloc, records)?;
+        self.leaves.reserve(1)?;
+        slide_on(alloc, &mut self.shift, self.leaves.len(), went, 1)?;
+        forget_front(&mut self.leaves, went);
+        self.leaves.push_back_reserved(bundle);
+        self.size = size;
+        Ok(())
+    }
+}

@@ -1,0 +1,58 @@
+// The leaves of a window of buckets.
+ghost use Rattle.std.specs.Prelude.{◌≡◌, ◌≤◌, ◌<◌, ◌+◌, length, drop};
+ghost use Rattle.std.specs.VecDeque.{deque_capacity};
+ghost use Rattle.window_manager.specs.Windows.{is_circle};
+ghost use Rattle.window_manager.specs.Buckets.{leaving, text_size};
+
+use record_text::{Bundle, Kind};
+use std::collections::VecDeque;
+
+/// Whether a kind lets the oldest leaf go for a new one.
+pub fn is_circle(kind: Kind) -> bool
+    ensures { result ≡ is_circle kind }
+{
+    match kind {
+        Kind::Circle => true,
+        Kind::Buckets | Kind::Growing | Kind::Document => false,
+    }
+}
+
+/// How many leaves leave at the front where a new one comes behind `count`.
+pub fn leaving(kind: Kind, places: u32, count: usize) -> usize
+    requires { 1 ≤ places }
+    ensures leaves { result ≡ leaving kind places count }
+    ensures within { result ≤ count }
+    ensures one { result ≤ 1 }
+{
+    if is_circle(kind) && places as usize <= count {
+        return 1;
+    }
+    0
+}
+
+/// How many bytes of text the first leaves have.
+pub fn text_of_front(leaves: &VecDeque<Bundle>, n: usize) -> u64
+    requires within { n ≤ length leaves.now.items }
+    requires small { text_size leaves.now.items ≤ 268435456 }
+    ensures { result + text_size (drop n leaves.now.items) ≡ text_size leaves.now.items }
+{
+    let mut size = 0;
+    'leaves: for i in 0..n {
+        size += leaves[i].records().text_len();
+    }
+    size
+}
+
+/// Lets the first leaves go.
+pub fn forget_front(leaves: &mut VecDeque<Bundle>, n: usize)
+    requires { n ≤ length leaves.old.items }
+    ensures items { leaves.new.items ≡ drop n leaves.old.items }
+    ensures room { deque_capacity leaves.new ≡ deque_capacity leaves.old }
+{
+    'leaves: for _ in 0..n {
+        match leaves.pop_front() {
+            Some(_) => (),
+            None => unreachable!(),
+        }
+    }
+}

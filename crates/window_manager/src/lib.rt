@@ -1,0 +1,15 @@
+//! Windows: which records count for the next run, and how the leaves that hold them changed since the last one. Start at
+//! `specs/Windows.antt`, which says what a window holds, what each command makes of it and what it refuses;
+//! `specs/OlderRule.antt` is the rule without names of files.
+#![tactic(auto)]
+
+mod buckets;
+mod fault;
+mod late_places;
+mod laws;
+mod leaves;
+mod records;
+mod slide;
+
+pub use fault::WindowFault;
+pub use laws::same_without_files;
