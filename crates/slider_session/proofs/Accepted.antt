@@ -1,0 +1,133 @@
+-- A window that takes no refused record holds accepted records.
+use Rattle.std.proofs.Common.{◌≡◌, ℕ, zero, suc, ◌+◌, ◌-◌, Bool, true, false, not, List, [], ◌∷◌, ◌++◌, length, take, drop, refl, sym, subst, All, cond}
+use Rattle.std.specs.Prelude.{Option, if◌then◌else◌, IsTrue, unwrap_or}
+use Rattle.std.specs.declared.option.Option.TheVariants.{Some, None}
+use Rattle.std.specs.declared.cmp.Ordering.TheVariants.{Less, Equal, Greater}
+use Rattle.std.specs.Ordering.{eq_by_cmp}
+use Rattle.std.specs.FinMap.Entries.{find, put, by_order}
+use Rattle.std.proofs.lemmas.List.Elements.{All-nil, All-cons, All-head, All-tail, All-append, All-push, All-take, All-drop, All-filter}
+use Rattle.definitions.specs.Tables.{HasGoodValues}
+use Rattle.definitions.specs.Answer.{pairs_of}
+use Rattle.definitions.proofs.AnswerLaws.{good-append}
+use Rattle.marker_chunker.specs.Cuts.{chunks_of, joined}
+use Rattle.marker_chunker.proofs.CutLaws.{joined_chunks}
+use Rattle.record_text.specs.Names.{name_cmp}
+use Rattle.record_text.specs.declared.kind.Kind.{Kind}
+use Rattle.record_text.specs.declared.kind.Kind.TheVariants as Kinds
+use Rattle.record_text.specs.declared.command.Command.{Command}
+use Rattle.record_text.specs.declared.command.Command.TheVariants.{Bucket, Drop, Late, File, Remove, Edit, Load, Run}
+use Rattle.window_manager.specs.Windows.{Leaf, Files, WindowState, empty_window, records_in, without_file, with_file, chunks_in, with_leaf, with_late, spliced, current_records, window_after, has_command, asks_too_many, brought, refused_from, first_refused, is_large, record_refusal, refusal_of}
+use Rattle.window_manager.specs.declared.fault.WindowFault.{WindowFault}
+use Rattle.window_manager.specs.declared.fault.WindowFault.TheVariants.{NotHere, TooMany}
+use Rattle.slider_session.specs.Accepted.{AllAccepted, HoldsAccepted}
+
+module _ {X : Type 0} (P : X → Type 0) where
+  All-left : (xs ys : List X) → All P (xs ++ ys) → All P xs
+  All-left [] ys all = All-nil P
+  All-left (x ∷ xs) ys all = All-cons P x xs (All-head P x (xs ++ ys) all) (All-left xs ys (All-tail P x (xs ++ ys) all))
+
+  All-right : (xs ys : List X) → All P (xs ++ ys) → All P ys
+  All-right [] ys all = all
+  All-right (x ∷ xs) ys all = All-right xs ys (All-tail P x (xs ++ ys) all)
+
+module _ (accepts : List ℕ → Bool) where
+  -- where no record is refused, all are accepted
+  pub all_accepted : (at : ℕ) (records : List (List ℕ)) → refused_from accepts at records ≡ None → AllAccepted accepts records
+  all_accepted at [] h = All-nil (λ r. IsTrue (accepts r))
+  all_accepted at (r ∷ rs) h = by_first (accepts r) refl (all_accepted (at + 1) rs) h
+    where
+      by_first : (b : Bool) → accepts r ≡ b → (refused_from accepts (at + 1) rs ≡ None → AllAccepted accepts rs) → (if b then refused_from accepts (at + 1) rs else Some at) ≡ None → AllAccepted accepts (r ∷ rs)
+      by_first true is more h = All-cons (λ r. IsTrue (accepts r)) r rs is (more h)
+      by_first false is more h = cc
+
+  -- where a command is not refused, the records that it brings are accepted
+  pub brings_accepted : (w : WindowState) (c : Command) → refusal_of accepts w c ≡ None → AllAccepted accepts (brought c)
+  brings_accepted w c h = all_accepted 0 (brought c) (none (has_command w.kind c) (asks_too_many w c) (is_large (window_after w c)) (first_refused accepts (brought c)) h)
+    where
+      none : (here many large : Bool) (o : Option ℕ) → (if not here then Some NotHere else if many then Some TooMany else record_refusal o large) ≡ None → o ≡ None
+      none false many large o h = cc
+      none true true large o h = cc
+      none true false large None h = refl
+      none true false large (Some index) h = cc
+
+  -- what accepted records emit has good values
+  pub records_good : {V : Type 0} (emits : List ℕ → List (List ℕ × V)) (good : V → Type 0) → ((r : List ℕ) → IsTrue (accepts r) → HasGoodValues good (emits r)) → (records : List (List ℕ)) → AllAccepted accepts records → HasGoodValues good (pairs_of emits records)
+  records_good emits good each [] all = tt
+  records_good emits good each (r ∷ rs) all = good-append good (emits r) (pairs_of emits rs) (each r (All-head (λ r. IsTrue (accepts r)) r rs all)) (records_good emits good each rs (All-tail (λ r. IsTrue (accepts r)) r rs all))
+
+  -- where each leaf is accepted, all records are
+  pub joined_accepted : (leaves : List Leaf) → All (AllAccepted accepts) leaves → AllAccepted accepts (joined leaves)
+  joined_accepted [] all = All-nil (λ r. IsTrue (accepts r))
+  joined_accepted (leaf ∷ leaves) all = All-append (λ r. IsTrue (accepts r)) leaf (joined leaves) (All-head (AllAccepted accepts) leaf leaves all) (joined_accepted leaves (All-tail (AllAccepted accepts) leaf leaves all))
+
+  -- where all records are accepted, each leaf is
+  leaves_accepted : (leaves : List Leaf) → AllAccepted accepts (joined leaves) → All (AllAccepted accepts) leaves
+  leaves_accepted [] all = All-nil (AllAccepted accepts)
+  leaves_accepted (leaf ∷ leaves) all = All-cons (AllAccepted accepts) leaf leaves (All-left (λ r. IsTrue (accepts r)) leaf (joined leaves) all) (leaves_accepted leaves (All-right (λ r. IsTrue (accepts r)) leaf (joined leaves) all))
+
+  chunks_accepted : (files : Files) → All (λ f. AllAccepted accepts f.1) files → All (AllAccepted accepts) (chunks_in files)
+  chunks_accepted [] all = All-nil (AllAccepted accepts)
+  chunks_accepted (f ∷ fs) all = All-append (AllAccepted accepts) (chunks_of f.1) (chunks_in fs)
+      (leaves_accepted (chunks_of f.1) (subst (AllAccepted accepts) (sym (joined_chunks f.1)) (All-head (λ f. AllAccepted accepts f.1) f fs all)))
+      (chunks_accepted fs (All-tail (λ f. AllAccepted accepts f.1) f fs all))
+
+  file_accepted : (name : List ℕ) (files : Files) → All (λ f. AllAccepted accepts f.1) files → AllAccepted accepts (records_in files name)
+  file_accepted name [] all = All-nil (λ r. IsTrue (accepts r))
+  file_accepted name (f ∷ fs) all = elim (eq_by_cmp name_cmp name f.0) as (λ b. AllAccepted accepts (unwrap_or (cond b (Some f.1) (find name_cmp name fs)) [])) [
+    | true ↦ All-head (λ f. AllAccepted accepts f.1) f fs all
+    | false ↦ file_accepted name fs (All-tail (λ f. AllAccepted accepts f.1) f fs all)
+  ]
+
+  put_accepted : (name : List ℕ) (records : List (List ℕ)) (files : Files) → AllAccepted accepts records → All (λ f. AllAccepted accepts f.1) files → All (λ f. AllAccepted accepts f.1) (put name_cmp name records files)
+  put_accepted name records [] new all = All-cons (λ f. AllAccepted accepts f.1) (name, records) [] new all
+  put_accepted name records (f ∷ fs) new all =
+      let rest = All-tail (λ f. AllAccepted accepts f.1) f fs all in
+      elim (name_cmp name f.0) as (λ o. All (λ f. AllAccepted accepts f.1) (by_order o ((name, records) ∷ f ∷ fs) ((f.0, records) ∷ fs) (f ∷ put name_cmp name records fs))) [
+        | Less ↦ All-cons (λ f. AllAccepted accepts f.1) (name, records) (f ∷ fs) new all
+        | Equal ↦ All-cons (λ f. AllAccepted accepts f.1) (f.0, records) fs new rest
+        | Greater ↦ All-cons (λ f. AllAccepted accepts f.1) f (put name_cmp name records fs) (All-head (λ f. AllAccepted accepts f.1) f fs all) (put_accepted name records fs new rest)
+      ]
+
+  without_accepted : (name : List ℕ) (files : Files) → All (λ f. AllAccepted accepts f.1) files → All (λ f. AllAccepted accepts f.1) (without_file files name)
+  without_accepted name files all = All-filter (λ f. not (eq_by_cmp name_cmp name f.0)) (λ f. AllAccepted accepts f.1) files all
+
+  with_accepted : (name : List ℕ) (records : List (List ℕ)) (files : Files) → AllAccepted accepts records → All (λ f. AllAccepted accepts f.1) files → All (λ f. AllAccepted accepts f.1) (with_file files name records)
+  with_accepted name [] files new all = without_accepted name files all
+  with_accepted name (r ∷ rs) files new all = put_accepted name (r ∷ rs) files new all
+
+  of_files : (w : WindowState) (files : Files) → All (λ f. AllAccepted accepts f.1) files → HoldsAccepted accepts (record w { leaves = chunks_in files; files = files })
+  of_files w files all = record { leaves = chunks_accepted files all; files = all }
+
+  with_leaf_accepted : (kind : Kind) (places : ℕ) (leaves : List Leaf) (leaf : Leaf) → AllAccepted accepts leaf → All (AllAccepted accepts) leaves → All (AllAccepted accepts) (with_leaf kind places leaves leaf)
+  with_leaf_accepted Kinds.Circle places leaves leaf new all = All-drop (AllAccepted accepts) (length (leaves ++ leaf ∷ []) - places) (leaves ++ leaf ∷ []) (All-push (AllAccepted accepts) leaves leaf all new)
+  with_leaf_accepted Kinds.Buckets places leaves leaf new all = All-push (AllAccepted accepts) leaves leaf all new
+  with_leaf_accepted Kinds.Growing places leaves leaf new all = All-push (AllAccepted accepts) leaves leaf all new
+  with_leaf_accepted Kinds.Document places leaves leaf new all = All-push (AllAccepted accepts) leaves leaf all new
+
+  with_late_accepted : (place : ℕ) (more : List (List ℕ)) (leaves : List Leaf) → AllAccepted accepts more → All (AllAccepted accepts) leaves → All (AllAccepted accepts) (with_late place more leaves)
+  with_late_accepted place more [] new all = All-nil (AllAccepted accepts)
+  with_late_accepted zero more (leaf ∷ leaves) new all = All-cons (AllAccepted accepts) (leaf ++ more) leaves (All-append (λ r. IsTrue (accepts r)) leaf more (All-head (AllAccepted accepts) leaf leaves all) new) (All-tail (AllAccepted accepts) leaf leaves all)
+  with_late_accepted (suc place) more (leaf ∷ leaves) new all = All-cons (AllAccepted accepts) leaf (with_late place more leaves) (All-head (AllAccepted accepts) leaf leaves all) (with_late_accepted place more leaves new (All-tail (AllAccepted accepts) leaf leaves all))
+
+  spliced_accepted : (at del : ℕ) (ins records : List (List ℕ)) → AllAccepted accepts ins → AllAccepted accepts records → AllAccepted accepts (spliced at del ins records)
+  spliced_accepted at del ins records new all = All-append (λ r. IsTrue (accepts r)) (take at records) (ins ++ drop (at + del) records) (All-take (λ r. IsTrue (accepts r)) at records all)
+      (All-append (λ r. IsTrue (accepts r)) ins (drop (at + del) records) new (All-drop (λ r. IsTrue (accepts r)) (at + del) records all))
+
+  -- a command that brings accepted records leaves a window of accepted records
+  after_accepted : (w : WindowState) (c : Command) → AllAccepted accepts (brought c) → HoldsAccepted accepts w → HoldsAccepted accepts (window_after w c)
+  after_accepted w (Bucket records) new holds = record { leaves = with_leaf_accepted w.kind w.places w.leaves records new holds.leaves; files = holds.files }
+  after_accepted w (Drop n) new holds = record { leaves = All-drop (AllAccepted accepts) n w.leaves holds.leaves; files = holds.files }
+  after_accepted w (Late place more) new holds = record { leaves = with_late_accepted place more w.leaves new holds.leaves; files = holds.files }
+  after_accepted w (File name) new holds = record { leaves = holds.leaves; files = holds.files }
+  after_accepted w (Remove name) new holds = of_files w (without_file w.files name) (without_accepted name w.files holds.files)
+  after_accepted w (Edit at del ins) new holds = of_files w (with_file w.files w.current (spliced at del ins (current_records w))) (with_accepted w.current (spliced at del ins (current_records w)) w.files (spliced_accepted at del ins (current_records w) new (file_accepted w.current w.files holds.files)) holds.files)
+  after_accepted w (Load records) new holds = of_files w (with_file w.files w.current records) (with_accepted w.current records w.files new holds.files)
+  after_accepted w Run new holds = holds
+
+  -- a command that is not refused leaves a window of accepted records
+  pub keeps_accepted : (w : WindowState) (c : Command) → refusal_of accepts w c ≡ None → HoldsAccepted accepts w → HoldsAccepted accepts (window_after w c)
+  keeps_accepted w c taken holds = after_accepted w c (brings_accepted w c taken) holds
+
+  -- an empty window holds no record
+  pub none_held : (kind : Kind) (places : ℕ) → HoldsAccepted accepts (empty_window kind places)
+  none_held kind places = record { leaves = All-nil (AllAccepted accepts); files = All-nil (λ f. AllAccepted accepts f.1) }
