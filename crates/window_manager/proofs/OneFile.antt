@@ -1,16 +1,18 @@
 -- A window whose commands name no file has one file at most, the one of the empty name.
 use Rattle.std.proofs.Common.{◌≡◌, ℕ, ◌+◌, Bool, true, false, List, [], ◌∷◌, ◌++◌, length, refl, sym, ap, ◌∙◌, arith, append-nil}
-use Rattle.std.specs.Prelude.{if◌then◌else◌, All, Result, Ok, Err, Option, nat_lt, ◌||◌, take, drop}
+use Rattle.std.specs.Prelude.{if◌then◌else◌, All, Result, Ok, Err, Option, nat_le, nat_lt, ◌==◌, ◌&&◌, ◌||◌, take, drop}
 use Rattle.std.specs.declared.option.Option.TheVariants.{Some, None}
 use Rattle.std.proofs.lemmas.List.Elements.{All-tail}
 use Rattle.definitions.specs.Records.{text_of}
 use Rattle.marker_chunker.specs.Cuts.{chunks_of, joined}
 use Rattle.marker_chunker.proofs.CutLaws.{joined_chunks}
+use Rattle.chunk_store.specs.Documents.{spliced}
+use Rattle.chunk_store.specs.Files.{all_chunks, file_at, file_of, with_file}
 use Rattle.record_text.specs.declared.kind.Kind.{Kind}
 use Rattle.record_text.specs.declared.kind.Kind.TheVariants as Kinds
 use Rattle.record_text.specs.declared.command.Command.{Command}
 use Rattle.record_text.specs.declared.command.Command.TheVariants.{Bucket, Drop, Late, File, Remove, Edit, Load, Run}
-use Rattle.window_manager.specs.Windows.{Leaf, Files, WindowState, empty_window, records_in, with_file, chunks_in, with_leaf, with_late, spliced, window_after, with_current, refusal_of, asks_too_many, too_many_files, is_large, record_refusal, first_refused}
+use Rattle.window_manager.specs.Windows.{Leaf, WindowState, empty_window, with_leaf, with_late, window_after, current_records, with_current, refusal_of, asks_too_many, is_one_too_many, is_large, record_refusal, first_refused}
 use Rattle.window_manager.specs.OlderRule.{OlderState, older_after, older_refusal, unless_refused, leaves_after, older_leaves_after, NamesNoFile, SameWithoutFiles}
 use Rattle.window_manager.specs.declared.fault.WindowFault.{WindowFault}
 use Rattle.window_manager.specs.declared.fault.WindowFault.TheVariants.{TooMany}
@@ -23,43 +25,47 @@ abbrev older : Kind → ℕ → List Leaf → OlderState
 older kind places leaves = record { kind = kind; places = places; leaves = leaves }
 
 -- a document of one file
-abbrev one_file : List (List ℕ) → Files
-one_file [] = []
-one_file (r ∷ rs) = ([], r ∷ rs) ∷ []
-
 abbrev document : ℕ → List (List ℕ) → WindowState
-document places rs = record { kind = Kinds.Document; places = places; leaves = chunks_of rs; files = one_file rs; current = [] }
+document places rs = record { kind = Kinds.Document; places = places; leaves = chunks_of rs; files = file_of [] (chunks_of rs); current = [] }
 
-one_records : (rs : List (List ℕ)) → records_in (one_file rs) [] ≡ rs
-one_records [] = refl
-one_records (r ∷ rs) = refl
+one_at : (cs : List Leaf) → file_at [] (file_of [] cs) ≡ cs
+one_at [] = refl
+one_at (c ∷ cs) = refl
 
-one_with : (rs more : List (List ℕ)) → with_file (one_file rs) [] more ≡ one_file more
-one_with [] [] = refl
-one_with [] (m ∷ ms) = refl
-one_with (r ∷ rs) [] = refl
-one_with (r ∷ rs) (m ∷ ms) = refl
+one_with : (cs ds : List Leaf) → with_file [] ds (file_of [] cs) ≡ file_of [] ds
+one_with [] ds = append-nil (file_of [] ds)
+one_with (c ∷ cs) ds = append-nil (file_of [] ds)
 
-one_chunks : (rs : List (List ℕ)) → chunks_in (one_file rs) ≡ chunks_of rs
-unfolding chunks_of
+one_chunks : (cs : List Leaf) → all_chunks (file_of [] cs) ≡ cs
 one_chunks [] = refl
-one_chunks (r ∷ rs) = append-nil (chunks_of (r ∷ rs))
+one_chunks (c ∷ cs) = append-nil (c ∷ cs)
 
-few_files : (rs : List (List ℕ)) → nat_lt 65536 (length (one_file rs)) ≡ false
+few_files : (cs : List Leaf) → nat_le 65536 (length (file_of [] cs)) ≡ false
 few_files [] = refl
-few_files (r ∷ rs) = refl
+few_files (c ∷ cs) = refl
 
 or_false : (b c : Bool) → c ≡ false → (b || c) ≡ b
 or_false true c e = refl
 or_false false c e = e
+
+and_false : (a b c : Bool) → c ≡ false → (a && b && c) ≡ false
+and_false true true c e = e
+and_false true false c e = refl
+and_false false b c e = refl
+
+one_records : (rs : List (List ℕ)) → joined (file_at [] (file_of [] (chunks_of rs))) ≡ rs
+one_records rs = ap joined (one_at (chunks_of rs)) ∙ joined_chunks rs
+
+few : (places : ℕ) (rs more : List (List ℕ)) → is_one_too_many (document places rs) more ≡ false
+few places rs more = and_false (length (current_records (document places rs)) == 0) (nat_lt 0 (length more)) (nat_le 65536 (length (file_of [] (chunks_of rs)))) (few_files (chunks_of rs))
 
 -- the document once its one file has other records
 current_is : (places : ℕ) (rs more : List (List ℕ)) → with_current (document places rs) more ≡ document places more
 current_is places rs more = λ i. record {
   kind = Kinds.Document;
   places = places;
-  leaves = (ap chunks_in (one_with rs more) ∙ one_chunks more) i;
-  files = one_with rs more i;
+  leaves = (ap all_chunks (one_with (chunks_of rs) (chunks_of more)) ∙ one_chunks (chunks_of more)) i;
+  files = one_with (chunks_of rs) (chunks_of more) i;
   current = [];
 }
 
@@ -79,19 +85,17 @@ module _ (accepts : List ℕ → Bool) (places : ℕ) (rs : List (List ℕ)) whe
 
   edit_refusal : (at del : ℕ) (ins : List (List ℕ)) → refusal_of accepts (document places rs) (Edit at del ins) ≡ older_refusal accepts (older Kinds.Document places (chunks_of rs)) (Edit at del ins)
   edit_refusal at del ins =
-      let few : too_many_files (window_after (document places rs) (Edit at del ins)) ≡ false = ap too_many_files (edit_after at del ins) ∙ few_files (spliced at del ins rs) in
       let many : asks_too_many (document places rs) (Edit at del ins) ≡ nat_lt (length (joined (chunks_of rs))) (at + del) =
-      or_false (nat_lt (length (records_in (one_file rs) [])) (at + del)) (too_many_files (window_after (document places rs) (Edit at del ins))) few
-      ∙ ap (λ (l : List (List ℕ)). nat_lt (length l) (at + del)) (one_records rs ∙ sym (joined_chunks rs)) in
+          or_false (nat_lt (length (current_records (document places rs))) (at + del)) (is_one_too_many (document places rs) ins) (few places rs ins)
+          ∙ ap (λ (l : List (List ℕ)). nat_lt (length l) (at + del)) (one_records rs ∙ sym (joined_chunks rs)) in
       let size : is_large (window_after (document places rs) (Edit at del ins)) ≡ large (chunks_of (spliced at del ins (joined (chunks_of rs)))) =
-      ap is_large (edit_after at del ins) ∙ ap (λ (l : List (List ℕ)). large (chunks_of (spliced at del ins l))) (sym (joined_chunks rs)) in
+          ap is_large (edit_after at del ins) ∙ ap (λ (l : List (List ℕ)). large (chunks_of (spliced at del ins l))) (sym (joined_chunks rs)) in
       same_refusal (asks_too_many (document places rs) (Edit at del ins)) (nat_lt (length (joined (chunks_of rs))) (at + del)) (first_refused accepts ins) (is_large (window_after (document places rs) (Edit at del ins))) (large (chunks_of (spliced at del ins (joined (chunks_of rs))))) many size
 
   load_refusal : (more : List (List ℕ)) → refusal_of accepts (document places rs) (Load more) ≡ older_refusal accepts (older Kinds.Document places (chunks_of rs)) (Load more)
   load_refusal more =
-      let few : too_many_files (with_current (document places rs) more) ≡ false = ap too_many_files (current_is places rs more) ∙ few_files more in
       let size : is_large (with_current (document places rs) more) ≡ large (chunks_of more) = ap is_large (current_is places rs more) in
-      same_refusal (too_many_files (with_current (document places rs) more)) false (first_refused accepts more) (is_large (with_current (document places rs) more)) (large (chunks_of more)) few size
+      same_refusal (is_one_too_many (document places rs) more) false (first_refused accepts more) (is_large (with_current (document places rs) more)) (large (chunks_of more)) (few places rs more) size
 
 -- a kind that is no document
 abbrev IsOfBuckets : Kind → Type 0

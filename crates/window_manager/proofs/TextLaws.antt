@@ -1,6 +1,7 @@
 -- The text of leaves.
 use Rattle.std.proofs.Common.{◌≡◌, ℕ, zero, suc, ◌+◌, ◌-◌, ◌<◌, ◌≤◌, List, [], ◌∷◌, ◌++◌, length, take, drop, get_or, refl, sym, ap, ◌∙◌, arith, append_assoc, append-nil, take-append-drop}
 use Rattle.std.proofs.lemmas.Grind.{common_steps}
+use Rattle.std.specs.Prelude.{slice_set}
 use Rattle.std.proofs.lemmas.List.{take_more}
 use Rattle.definitions.specs.Records.{text_of}
 use Rattle.marker_chunker.specs.Cuts.{joined}
@@ -38,3 +39,30 @@ size_front leaves i leaf lt is =
 pub count_size : (rs : List (List ℕ)) → length rs ≤ length (text_of rs)
 count_size [] = omega arith
 count_size (r ∷ rs) = omega (arith, count_size rs, length_append r (10 ∷ text_of rs))
+
+-- records were added at the end of a leaf
+pub size_late : (place : ℕ) (more : List (List ℕ)) (leaves : List Leaf) → place < length leaves → text_size (with_late place more leaves) ≡ text_size leaves + length (text_of more)
+size_late place more [] lt = absurd (omega (arith, lt))
+size_late zero more (leaf ∷ leaves) lt = omega (arith, text_append (leaf ++ more) (joined leaves), text_append leaf more, text_append leaf (joined leaves))
+size_late (suc place) more (leaf ∷ leaves) lt =
+    let rest = size_late place more leaves (omega (arith, lt)) in
+    omega (arith, rest, text_append leaf (joined (with_late place more leaves)), text_append leaf (joined leaves))
+
+pub count_late : (place : ℕ) (more : List (List ℕ)) (leaves : List Leaf) → length (with_late place more leaves) ≡ length leaves
+count_late place more [] = refl
+count_late zero more (leaf ∷ leaves) = refl
+count_late (suc place) more (leaf ∷ leaves) = let rest = count_late place more leaves in omega (arith, rest)
+
+pub late_nothing : (place : ℕ) (leaves : List Leaf) → with_late place [] leaves ≡ leaves
+late_nothing place [] = refl
+late_nothing zero (leaf ∷ leaves) = ap (λ (l : Leaf). l ∷ leaves) (append-nil leaf)
+late_nothing (suc place) (leaf ∷ leaves) = ap (λ (ls : List Leaf). leaf ∷ ls) (late_nothing place leaves)
+
+pub late_set : (place : ℕ) (more : List (List ℕ)) (leaves : List Leaf) (leaf : Leaf) → place < length leaves → leaf ≡ get_or leaves place leaf → with_late place more leaves ≡ slice_set leaves place (leaf ++ more)
+late_set place more [] leaf lt is = absurd (omega (arith, lt))
+late_set zero more (l ∷ leaves) leaf lt is = ap (λ (x : Leaf). (x ++ more) ∷ leaves) (sym is)
+late_set (suc place) more (l ∷ leaves) leaf lt is = ap (λ (ls : List Leaf). l ∷ ls) (late_set place more leaves leaf (omega (arith, lt)) is)
+
+-- one leaf has no more text than all
+pub size_part : (leaves : List Leaf) (i : ℕ) (leaf : Leaf) → i < length leaves → leaf ≡ get_or leaves i leaf → length (text_of leaf) ≤ text_size leaves
+size_part leaves i leaf lt is = omega (arith, size_front leaves i leaf lt is, size_cut (i + 1) leaves)

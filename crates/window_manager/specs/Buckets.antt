@@ -1,13 +1,12 @@
 -- A window of buckets, and what its calls promise.
-use Rattle.std.specs.Prelude.{◌≡◌, ◌≢◌, ℕ, ◌≤◌, Bool, ◌&&◌, nat_le, if◌then◌else◌, List, length, Option, Result, Ok, Err}
+use Rattle.std.specs.Prelude.{◌≡◌, ◌≢◌, ℕ, ◌≤◌, Bool, true, false, ◌&&◌, nat_le, if◌then◌else◌, List, length, Option, Result, Ok, Err}
 use Rattle.std.specs.declared.option.Option.TheVariants.{Some, None}
-use Rattle.definitions.specs.Records.{text_of}
-use Rattle.marker_chunker.specs.Cuts.{joined}
+pub use Rattle.chunk_store.specs.Documents.{text_size}
 use Rattle.record_text.specs.declared.kind.Kind.{Kind}
 use Rattle.record_text.specs.declared.kind.Kind.TheVariants as Kinds
 use Rattle.record_text.specs.declared.command.Command.{Command}
 use Rattle.record_text.specs.declared.shift.Shift.{Shift}
-use Rattle.window_manager.specs.Windows.{Leaf, WindowState, empty_window, window_after, is_circle, refusal_of}
+use Rattle.window_manager.specs.Windows.{Leaf, WindowState, empty_window, window_after, has_command, asks_too_many, is_large, is_circle, refusal_of}
 use Rattle.window_manager.specs.Slides.{Slid, not_slid, slid_after, slid_anew, FitsCount}
 use Rattle.window_manager.specs.declared.fault.WindowFault.{WindowFault}
 use Rattle.window_manager.specs.declared.fault.WindowFault.TheVariants.{Mem}
@@ -29,10 +28,6 @@ buckets_after v c = record { window = window_after v.window c; slid = slid_after
 abbrev pub buckets_anew : BucketView → BucketView
 buckets_anew v = record { window = v.window; slid = slid_anew (length v.window.leaves) v.slid }
 
--- how many bytes of text these leaves have
-abbrev pub text_size : List Leaf → ℕ
-text_size leaves = length (text_of (joined leaves))
-
 -- how many leaves leave at the front where a new one comes: the oldest of a circle that is full
 abbrev pub leaving : Kind → ℕ → ℕ → ℕ
 leaving kind places count = if is_circle kind && nat_le places count then 1 else 0
@@ -51,6 +46,12 @@ pub record AreKept (w : WindowState) (size : ℕ) (shift : Shift) : Type 0 where
   pub window : IsOfBuckets w
   pub sized : size ≡ text_size w.leaves
   pub fits : FitsCount shift (length w.leaves)
+
+-- nothing refuses a command whose records are accepted
+pub record IsAllowed (w : WindowState) (c : Command) : Type 0 where
+  pub has : has_command w.kind c ≡ true
+  pub few : asks_too_many w c ≡ false
+  pub small : is_large (window_after w c) ≡ false
 
 -- a command was carried out, or refused with the window as it was: want of memory comes only where nothing refuses it
 abbrev pub Applied : (List ℕ → Bool) → BucketView → BucketView → Command → Result (Unit {0}) WindowFault → Type 0

@@ -2,3 +2,4 @@ pub mod Windows
 pub mod OlderRule
 pub mod Slides
 pub mod Buckets
+pub mod Splices

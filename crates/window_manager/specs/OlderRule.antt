@@ -4,11 +4,12 @@ use Rattle.std.specs.Prelude.{◌≡◌, ℕ, ◌+◌, Bool, true, false, not, �
 use Rattle.std.specs.declared.option.Option.TheVariants.{Some, None}
 use Rattle.definitions.specs.Records.{text_of}
 use Rattle.marker_chunker.specs.Cuts.{chunks_of, joined}
+use Rattle.chunk_store.specs.Documents.{spliced}
 use Rattle.record_text.specs.declared.kind.Kind.{Kind}
 use Rattle.record_text.specs.declared.kind.Kind.TheVariants as Kinds
 use Rattle.record_text.specs.declared.command.Command.{Command}
 use Rattle.record_text.specs.declared.command.Command.TheVariants.{Bucket, Drop, Late, File, Remove, Edit, Load, Run}
-use Rattle.window_manager.specs.Windows.{Leaf, WindowState, empty_window, with_leaf, with_late, spliced, window_after, is_circle, brought, first_refused, record_refusal, refusal_of}
+use Rattle.window_manager.specs.Windows.{Leaf, WindowState, empty_window, with_leaf, with_late, window_after, is_circle, brought, first_refused, record_refusal, refusal_of}
 use Rattle.window_manager.specs.declared.fault.WindowFault.{WindowFault}
 use Rattle.window_manager.specs.declared.fault.WindowFault.TheVariants.{NotHere, TooMany}
 

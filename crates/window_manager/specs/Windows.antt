@@ -1,11 +1,10 @@
 -- Windows: what they hold, what a command makes of them, and what they refuse.
-use Rattle.std.specs.Prelude.{ℕ, zero, suc, ◌+◌, ◌-◌, Bool, true, false, not, ◌&&◌, ◌||◌, nat_le, nat_lt, if◌then◌else◌, List, [], ◌∷◌, ◌++◌, length, take, drop, unwrap_or, Option}
+use Rattle.std.specs.Prelude.{ℕ, zero, suc, ◌+◌, ◌-◌, Bool, true, false, not, ◌&&◌, ◌||◌, ◌==◌, nat_le, nat_lt, if◌then◌else◌, List, [], ◌∷◌, ◌++◌, length, drop, Option}
 use Rattle.std.specs.declared.option.Option.TheVariants.{Some, None}
-use Rattle.std.specs.Ordering.{eq_by_cmp}
-use Rattle.std.specs.FinMap.Entries.{find, put, where_key}
 use Rattle.definitions.specs.Records.{text_of}
 use Rattle.marker_chunker.specs.Cuts.{chunks_of, joined}
-use Rattle.record_text.specs.Names.{name_cmp}
+use Rattle.chunk_store.specs.Documents.{spliced}
+use Rattle.chunk_store.specs.Files.{File as NamedFile, all_chunks, file_at, with_file}
 use Rattle.record_text.specs.declared.kind.Kind.{Kind}
 use Rattle.record_text.specs.declared.kind.Kind.TheVariants as Kinds
 use Rattle.record_text.specs.declared.command.Command.{Command}
@@ -17,35 +16,13 @@ use Rattle.window_manager.specs.declared.fault.WindowFault.TheVariants.{NotHere,
 abbrev pub Leaf : Type 0
 Leaf = List (List ℕ)
 
--- files with their records, in the byte order of their names, none without records
-abbrev pub Files : Type 0
-Files = List (List ℕ × List (List ℕ))
-
--- the records of a file: none where it is not in the list
-abbrev pub records_in : Files → List ℕ → List (List ℕ)
-records_in files name = unwrap_or (find name_cmp name files) []
-
--- the files without the one of this name
-abbrev pub without_file : Files → List ℕ → Files
-without_file files name = where_key name_cmp (λ other. not (eq_by_cmp name_cmp name other)) files
-
--- the files, where the one of this name has these records: one left without records goes
-abbrev pub with_file : Files → List ℕ → List (List ℕ) → Files
-with_file files name [] = without_file files name
-with_file files name (r ∷ rs) = put name_cmp name (r ∷ rs) files
-
--- files are cut into chunks one by one: no chunk spans two files
-abbrev pub chunks_in : Files → List Leaf
-chunks_in [] = []
-chunks_in (f ∷ fs) = chunks_of f.1 ++ chunks_in fs
-
--- what a window holds: its kind, how many places a circle has, its leaves, and of a document its files and the name of
--- the current one. The leaves of a document are the chunks of its files
+-- what a window holds: its kind, how many places a circle has, its leaves, and of a document its files, each with the
+-- chunks into which its records are cut, and the name of the current one. The leaves of a document are these chunks
 pub record WindowState : Type 0 where
   pub kind : Kind
   pub places : ℕ
   pub leaves : List Leaf
-  pub files : Files
+  pub files : List NamedFile
   pub current : List ℕ
 
 -- a window before its first command
@@ -71,21 +48,17 @@ with_late place more [] = []
 with_late zero more (leaf ∷ leaves) = (leaf ++ more) ∷ leaves
 with_late (suc place) more (leaf ∷ leaves) = leaf ∷ with_late place more leaves
 
--- the records with `del` of them from place `at` on replaced
-abbrev pub spliced : ℕ → ℕ → List (List ℕ) → List (List ℕ) → List (List ℕ)
-spliced at del ins records = take at records ++ (ins ++ drop (at + del) records)
-
 -- the document with these files
-abbrev pub with_files : WindowState → Files → WindowState
-with_files w files = record w { leaves = chunks_in files; files = files }
+abbrev pub with_files : WindowState → List NamedFile → WindowState
+with_files w files = record w { leaves = all_chunks files; files = files }
 
 -- the records of the current file
 abbrev pub current_records : WindowState → List (List ℕ)
-current_records w = records_in w.files w.current
+current_records w = joined (file_at w.current w.files)
 
--- the document whose current file has these records
+-- the document whose current file has these records, cut from nothing
 abbrev pub with_current : WindowState → List (List ℕ) → WindowState
-with_current w records = with_files w (with_file w.files w.current records)
+with_current w records = with_files w (with_file w.current (chunks_of records) w.files)
 
 -- the window after a command
 abbrev pub window_after : WindowState → Command → WindowState
@@ -93,7 +66,7 @@ window_after w (Bucket records) = record w { leaves = with_leaf w.kind w.places 
 window_after w (Drop n) = record w { leaves = drop n w.leaves }
 window_after w (Late place more) = record w { leaves = with_late place more w.leaves }
 window_after w (File name) = record w { current = name }
-window_after w (Remove name) = with_files w (without_file w.files name)
+window_after w (Remove name) = with_files w (with_file name [] w.files)
 window_after w (Edit at del ins) = with_current w (spliced at del ins (current_records w))
 window_after w (Load records) = with_current w records
 window_after w Run = w
@@ -117,17 +90,17 @@ abbrev pub is_circle : Kind → Bool
 is_circle Kinds.Circle = true
 is_circle kind = false
 
--- whether more files have records than may
-abbrev pub too_many_files : WindowState → Bool
-too_many_files w = nat_lt 65536 (length w.files)
+-- whether these records would make the current file one too many: it has none, and as many files as may have records
+abbrev pub is_one_too_many : WindowState → List (List ℕ) → Bool
+is_one_too_many w records = (length (current_records w) == 0) && nat_lt 0 (length records) && nat_le 65536 (length w.files)
 
 -- whether a command asks for more than there is, or than there may be
 abbrev pub asks_too_many : WindowState → Command → Bool
 asks_too_many w (Bucket records) = not (is_circle w.kind) && nat_le 65536 (length w.leaves)
 asks_too_many w (Drop n) = nat_lt (length w.leaves) n
 asks_too_many w (Late place more) = nat_le (length w.leaves) place
-asks_too_many w (Edit at del ins) = nat_lt (length (current_records w)) (at + del) || too_many_files (window_after w (Edit at del ins))
-asks_too_many w (Load records) = too_many_files (window_after w (Load records))
+asks_too_many w (Edit at del ins) = nat_lt (length (current_records w)) (at + del) || is_one_too_many w ins
+asks_too_many w (Load records) = is_one_too_many w records
 asks_too_many w command = false
 
 -- the records that a command brings

@@ -1,13 +1,13 @@
 // A window of buckets: in a row, in a circle of places, or one that only grows.
-ghost use Rattle.std.specs.Prelude.{◌≡◌, ◌≢◌, ◌≤◌, ◌<◌, ◌+◌, ◌^◌, ◌&&◌, not, nat_le, [], length, false, drop, OnOk, OnErr, slice_index_or};
+ghost use Rattle.std.specs.Prelude.{ℕ, Bool, List, ◌≡◌, ◌≢◌, ◌≤◌, ◌<◌, ◌+◌, ◌^◌, ◌&&◌, not, nat_le, [], length, false, drop, OnOk, OnErr, slice_index_or};
 ghost use Rattle.record_text.specs.declared.kind.Kind.TheVariants as Kinds;
 ghost use Rattle.record_text.specs.declared.command.Command.TheVariants.{Bucket, Drop, Late, Run};
 ghost use Rattle.window_manager.specs.Windows.{asks_too_many, is_circle, is_large, refusal_of, window_after};
 ghost use Rattle.window_manager.specs.Slides.{FitsCount, slide_of};
-ghost use Rattle.window_manager.specs.Buckets.{Applied, IsOfBuckets, buckets_after, buckets_anew, leaving, no_buckets, text_size};
+ghost use Rattle.window_manager.specs.Buckets.{Applied, IsAllowed, IsOfBuckets, buckets_after, buckets_anew, leaving, no_buckets, text_size};
 
 use crate::WindowFault;
-use crate::leaves::{forget_front, is_circle, leaving, text_of_front};
+use crate::leaves::{forget_front, is_circle, leaving, takes_drop, takes_late, text_of_front};
 use crate::records::{joined_records, records_refusal};
 use crate::slide::{mark_late, slide_on};
 use job_laws::Job;
@@ -158,5 +158,108 @@ impl BucketWindow {
         self.leaves.push_back_reserved(bundle);
         self.size = size;
         Ok(())
+    }
+
+    /// Why the oldest buckets may not go, so many.
+    fn drop_refusal(&self, n: u32) -> Option<WindowFault>
+        ensures { (accepts : List ℕ → Bool) → result ≡ refusal_of accepts self.now.window (Drop n) }
+    {
+        if !takes_drop(self.kind) {
+            return Some(WindowFault::NotHere);
+        }
+        if n as usize > self.leaves.len() {
+            return Some(WindowFault::TooMany);
+        }
+        None
+    }
+
+    /// The oldest buckets go, so many.
+    fn forget(&mut self, alloc: Global, n: u32) -> Result<(), AllocError>
+        requires within { n ≤ length self.old.window.leaves }
+        requires accepted { self.old.slid.accepted < 2 ^ 63 }
+        ensures ok { OnOk result (self.new ≡ buckets_after self.old (Drop n)) }
+        ensures err { OnErr result (self.new ≡ self.old) }
+    {
+        let n = n as usize;
+        slide_on(alloc, &mut self.shift, self.leaves.len(), n, 0)?;
+        self.size -= text_of_front(&self.leaves, n);
+        forget_front(&mut self.leaves, n);
+        Ok(())
+    }
+
+    /// Why records may not be added to the bucket at a place.
+    fn late_refusal<J: Job>(&self, place: u32, more: &Records, job: &J) -> Option<WindowFault>
+        ensures { result ≡ refusal_of (J.accepts (J.setting job.now)) self.now.window (Late place more.now) }
+    {
+        if !takes_late(self.kind) {
+            return Some(WindowFault::NotHere);
+        }
+        if place as usize >= self.leaves.len() {
+            return Some(WindowFault::TooMany);
+        }
+        records_refusal(job, more, self.size)
+    }
+
+    /// Records are added at the end of the bucket at a place. The bucket is copied.
+    fn add_late(&mut self, alloc: Global, place: u32, more: &Records) -> Result<(), AllocError>
+        requires within { place < length self.old.window.leaves }
+        requires large { is_large (window_after self.old.window (Late place more.now)) ≡ false }
+        ensures ok { OnOk result (self.new ≡ buckets_after self.old (Late place more.now)) }
+        ensures err { OnErr result (self.new ≡ self.old) }
+    {
+        if more.is_empty() {
+            return Ok(());
+        }
+        let place = place as usize;
+        let records = joined_records(alloc, self.leaves[place].records(), more)?;
+        let bundle = Bundle::of(alloc, records)?;
+        mark_late(alloc, &mut self.shift, self.leaves.len(), place)?;
+        self.leaves[place] = bundle;
+        self.size += more.text_len();
+        Ok(())
+    }
+
+    /// Why a command is refused, or none. It takes no memory.
+    fn refusal<J: Job>(&self, c: &Command, job: &J) -> Option<WindowFault>
+        ensures { result ≡ refusal_of (J.accepts (J.setting job.now)) self.now.window c.now }
+    {
+        let _ = &self.kind;
+        match c {
+            Command::Bucket(records) => self.bucket_refusal(records, job),
+            Command::Drop(n) => self.drop_refusal(*n),
+            Command::Late { place, more } => self.late_refusal(*place, more, job),
+            _ => Some(WindowFault::NotHere),
+        }
+    }
+
+    /// Carries out a command that is not refused.
+    fn carry_out(&mut self, alloc: Global, c: Command) -> Result<(), AllocError>
+        requires allowed { IsAllowed self.old.window c }
+        requires accepted { self.old.slid.accepted < 2 ^ 63 }
+        ensures ok { OnOk result (self.new ≡ buckets_after self.old c) }
+        ensures err { OnErr result (self.new ≡ self.old) }
+    {
+        let _ = &self.kind;
+        match c {
+            Command::Bucket(records) => self.push(alloc, records),
+            Command::Drop(n) => self.forget(alloc, n),
+            Command::Late { place, more } => self.add_late(alloc, place, &more),
+            _other => unreachable!(),
+        }
+    }
+
+    /// Carries out a command. A bucket costs its own records, late records cost their bucket, and a drop costs the
+    /// buckets that go. A refusal changes nothing.
+    pub fn apply<J: Job>(&mut self, alloc: Global, c: Command, job: &J) -> Result<(), WindowFault>
+        requires accepted { self.old.slid.accepted < 2 ^ 63 }
+        ensures { Applied (J.accepts (J.setting job.now)) self.old self.new c result }
+    {
+        if let Some(fault) = self.refusal(&c, job) {
+            return Err(fault);
+        }
+        match self.carry_out(alloc, c) {
+            Ok(()) => Ok(()),
+            Err(_) => Err(WindowFault::Mem),
+        }
     }
 }

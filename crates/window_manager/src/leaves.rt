@@ -1,7 +1,8 @@
 // The leaves of a window of buckets.
-ghost use Rattle.std.specs.Prelude.{◌≡◌, ◌≤◌, ◌<◌, ◌+◌, length, drop};
+ghost use Rattle.std.specs.Prelude.{ℕ, List, ◌≡◌, ◌≤◌, ◌<◌, ◌+◌, length, drop};
+ghost use Rattle.record_text.specs.declared.command.Command.TheVariants.{Drop, Late};
 ghost use Rattle.std.specs.VecDeque.{deque_capacity};
-ghost use Rattle.window_manager.specs.Windows.{is_circle};
+ghost use Rattle.window_manager.specs.Windows.{has_command, is_circle};
 ghost use Rattle.window_manager.specs.Buckets.{leaving, text_size};
 
 use record_text::{Bundle, Kind};
@@ -14,6 +15,26 @@ pub fn is_circle(kind: Kind) -> bool
     match kind {
         Kind::Circle => true,
         Kind::Buckets | Kind::Growing | Kind::Document => false,
+    }
+}
+
+/// Whether the oldest leaves of a kind may go by a command.
+pub fn takes_drop(kind: Kind) -> bool
+    ensures { (n : ℕ) → has_command kind (Drop n) ≡ result }
+{
+    match kind {
+        Kind::Buckets => true,
+        Kind::Circle | Kind::Growing | Kind::Document => false,
+    }
+}
+
+/// Whether a kind takes late records.
+pub fn takes_late(kind: Kind) -> bool
+    ensures { (place : ℕ) (more : List (List ℕ)) → has_command kind (Late place more) ≡ result }
+{
+    match kind {
+        Kind::Buckets | Kind::Circle => true,
+        Kind::Growing | Kind::Document => false,
     }
 }
 

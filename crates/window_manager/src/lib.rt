@@ -4,12 +4,14 @@
 #![tactic(auto)]
 
 mod buckets;
+mod document;
 mod fault;
 mod late_places;
 mod laws;
 mod leaves;
 mod records;
 mod slide;
+mod splice;
 
 pub use fault::WindowFault;
 pub use laws::same_without_files;

@@ -1,0 +1,9 @@
+pub mod Texts
+pub mod Cutting
+pub mod Reaches
+pub mod Splices
+pub mod Shelves
+pub mod Together
+pub mod Ends
+pub mod Refusals
+pub mod Changes

@@ -1,0 +1,40 @@
+// What an edit changes, and why it is refused.
+ghost use Rattle.std.specs.Prelude.{◌≡◌, ◌<◌, ◌+◌, ◌^◌};
+ghost use Rattle.chunk_store.specs.Files.{raised};
+
+use thiserror::Error;
+
+/// How a list of chunks changed: from the chunk at `first` on, `gone` old ones became `fresh` new ones.
+#[derive(Clone, Copy, Debug, PartialEq, Eq)]
+pub struct Change {
+    pub first: usize,
+    pub gone: usize,
+    pub fresh: usize,
+}
+
+impl Change {
+    /// The same change where so many more chunks stand before.
+    pub(crate) fn raised(self, before: usize) -> Change
+        requires { before + self.first < 2 ^ 64 }
+        ensures { result ≡ raised before self }
+    {
+        Change {
+            first: before + self.first,
+            ..self
+        }
+    }
+}
+
+/// Why an edit or a load is refused, in the order in which the causes are tested.
+#[derive(Clone, Copy, Debug, PartialEq, Eq, Drop, Error)]
+pub enum EditFault {
+    /// More records would be replaced than there are, or more files would have records than may.
+    #[error("more than there is, or than there may be")]
+    TooMany,
+    /// The text would have more than 268,435,456 bytes.
+    #[error("more text than a window may have")]
+    WindowLarge,
+    /// Want of memory.
+    #[error("out of memory")]
+    Mem,
+}

@@ -1,0 +1,390 @@
+// Documents in the order of their names.
+ghost use Rattle.std.specs.Prelude.{◌≡◌, ◌≢◌, ◌↔◌, IsTrue, ◌<◌, ◌≤◌, ◌+◌, ◌++◌, ◌∷◌, [], ◌⊎◌, List, length, take, drop, slice_index_or, vec_capacity, IfOk, IfErr, OnOk, OnErr};
+ghost use Rattle.definitions.specs.Records.{text_of};
+ghost use Rattle.marker_chunker.specs.Cuts.{joined, chunks_of};
+ghost use Rattle.chunk_store.specs.Documents.{spliced, text_size, Answers, IsSplice};
+ghost use Rattle.chunk_store.specs.Files.{File, HasRisingNames, HasDocuments, IsAt, IsGap, IsOneTooMany, IsEditOf, IsLoadOf, all_chunks, chunks_before, edited, ends_of, file_at, file_of, raised, with_file};
+
+use crate::{Change, Document, EditFault};
+use record_text::{Bundle, Name, Records};
+use std::alloc::{AllocError, Global};
+use std::marker::Model;
+
+/// How many files may have records.
+const MOST_FILES: usize = 65_536;
+
+/// The place of the file with this name, or the place where it would stand. It is a binary search.
+fn find_file(files: &[(Name, Document)], name: &Name) -> Result<usize, usize>
+    requires { HasRisingNames files.now }
+    ensures here { IfOk result (IsAt name.now files.now) }
+    ensures gap { IfErr result (IsGap name.now files.now) }
+{
+    let i = files.partition_point(|file| file.0.compare(name).is_lt());
+    if i == files.len() {
+        return Err(i);
+    }
+    if files[i].0.same(name) {
+        return Ok(i);
+    }
+    Err(i)
+}
+
+/// How many chunks stand before file `i`.
+fn file_begin(ends: &[usize], i: usize) -> usize
+    requires { i ≤ length ends.now }
+    ensures { (files : List File) → ends.now ≡ ends_of 0 files → result ≡ length (all_chunks (take i files)) }
+{
+    if i == 0 { 0 } else { ends[i - 1] }
+}
+
+/// The file that holds chunk `i` of all.
+fn find_chunk(ends: &[usize], i: usize) -> usize
+    ensures { (files : List File) → ends.now ≡ ends_of 0 files → i < length (all_chunks files) → (result < length files) × (length (all_chunks (take result files)) ≤ i) × (i < length (all_chunks (take (result + 1) files))) }
+{
+    ends.partition_point(|end| *end <= i)
+}
+
+/// Writes down where the chunks of each file end, from file `from` on; before it that stands.
+fn fill(ends: &mut Vec<usize>, files: &[(Name, Document)], from: usize)
+    requires within { from ≤ length files.now }
+    requires front { take from ends.old.items ≡ ends_of 0 (take from files.now) }
+    requires room { length files.now ≤ vec_capacity ends.old }
+    requires small { length (all_chunks files.now) ≤ 268435456 }
+    ensures { ends.new.items ≡ ends_of 0 files.now }
+{
+    ends.truncate(from);
+    let mut end = file_begin(ends.as_slice(), from);
+    'files: for i in from..files.len() {
+        end += files[i].1.chunk_count();
+        ends.push_reserved(end);
+    }
+}
+
+/// After a change of file `i`: it goes where it has no records.
+fn drop_empty(files: &mut Vec<(Name, Document)>, i: usize)
+    requires { i < length files.old.items }
+    ensures { (d : File) → files.new.items ≡ take i files.old.items ++ (file_of (slice_index_or files.old.items i d).0 (slice_index_or files.old.items i d).1 ++ drop (i + 1) files.old.items) }
+{
+    if files[i].1.chunk_count() == 0 {
+        drop(files.remove(i));
+    }
+}
+
+/// The same, and writes down anew where chunks end.
+fn settle(files: &mut Vec<(Name, Document)>, ends: &mut Vec<usize>, i: usize)
+    requires within { i < length files.old.items }
+    requires front { take i ends.old.items ≡ ends_of 0 (take i files.old.items) }
+    requires ends { length ends.old.items ≡ length files.old.items }
+    requires small { length (all_chunks files.old.items) ≤ 268435456 }
+    ensures files { (d : File) → files.new.items ≡ take i files.old.items ++ (file_of (slice_index_or files.old.items i d).0 (slice_index_or files.old.items i d).1 ++ drop (i + 1) files.old.items) }
+    ensures ends { ends.new.items ≡ ends_of 0 files.new.items }
+{
+    drop_empty(files, i);
+    fill(ends, files.as_slice(), i);
+}
+
+/// One document more, at place `i`.
+fn insert(
+    files: &mut Vec<(Name, Document)>,
+    ends: &mut Vec<usize>,
+    i: usize,
+    name: Name,
+    document: Document,
+) -> Result<(), AllocError>
+    requires within { i ≤ length files.old.items }
+    requires ends { ends.old.items ≡ ends_of 0 files.old.items }
+    requires small { length (all_chunks files.old.items) + length document ≤ 268435456 }
+    ensures files { OnOk result (files.new.items ≡ take i files.old.items ++ ((name, document) ∷ drop i files.old.items)) }
+    ensures ends { OnOk result (ends.new.items ≡ ends_of 0 files.new.items) }
+    ensures err { OnErr result ((files.new.items ≡ files.old.items) × (ends.new.items ≡ ends.old.items)) }
+{
+    match ends.try_reserve(1) {
+        Ok(()) => (),
+        Err(e) => return Err(e),
+    }
+    match files.insert(i, (name, document)) {
+        Ok(()) => (),
+        Err(_) => return Err(AllocError),
+    }
+    fill(ends, files.as_slice(), i);
+    Ok(())
+}
+
+/// One document less, that at place `i`.
+fn take_out(files: &mut Vec<(Name, Document)>, ends: &mut Vec<usize>, i: usize)
+    requires within { i < length files.old.items }
+    requires ends { ends.old.items ≡ ends_of 0 files.old.items }
+    requires small { length (all_chunks files.old.items) ≤ 268435456 }
+    ensures files { files.new.items ≡ take i files.old.items ++ drop (i + 1) files.old.items }
+    ensures ends { ends.new.items ≡ ends_of 0 files.new.items }
+{
+    drop(files.remove(i));
+    fill(ends, files.as_slice(), i);
+}
+
+/// Documents that have records, seen with their names, in the order of these. Where their chunks end stands beside
+/// them, so that a chunk of all is found by a binary search.
+#[derive(Drop)]
+pub struct Shelf {
+    files: Vec<(Name, Document)>,
+    ends: Vec<usize>,
+    size: u64,
+}
+
+impl Model for Shelf {
+    ghost use Rattle.std.specs.Prelude.{◌≡◌, ◌≤◌, List, length};
+    ghost use Rattle.chunk_store.specs.Documents.{text_size};
+    ghost use Rattle.chunk_store.specs.Files.{File, IsShelf};
+
+    ghost Value = { List File };
+
+    ghost view = { λ s. s.files.items };
+
+    ghost invariant = { λ s. IsShelf s.files.items s.ends.items s.size };
+}
+
+impl Shelf {
+    /// No file. It takes no memory.
+    pub fn new(alloc: Global) -> Shelf
+        ensures { result ≡ [] }
+    {
+        Shelf {
+            files: Vec::new(alloc),
+            ends: Vec::new(alloc),
+            size: 0,
+        }
+    }
+
+    /// How many files there are.
+    pub fn file_count(&self) -> usize
+        ensures count { result ≡ length self.now }
+        ensures most { result ≤ 65536 }
+        ensures names { HasRisingNames self.now }
+        ensures documents { HasDocuments self.now }
+    {
+        self.files.len()
+    }
+
+    /// How many chunks all files have.
+    pub fn chunk_count(&self) -> usize
+        ensures { result ≡ length (all_chunks self.now) }
+    {
+        file_begin(self.ends.as_slice(), self.ends.len())
+    }
+
+    /// A chunk of all, by its place. It is a binary search among the files.
+    pub fn chunk(&self, i: usize) -> &Bundle
+        requires { i < length (all_chunks self.now) }
+        ensures { result.now ≡ slice_index_or (all_chunks self.now) i [] }
+    {
+        let k = find_chunk(self.ends.as_slice(), i);
+        let begin = file_begin(self.ends.as_slice(), k);
+        self.files[k].1.chunk(i - begin)
+    }
+
+    /// How many records the file with this name has.
+    pub fn record_count(&self, name: &Name) -> usize
+        ensures { result ≡ length (joined (file_at name.now self.now)) }
+    {
+        match find_file(self.files.as_slice(), name) {
+            Ok(i) => self.files[i].1.record_count(),
+            Err(_) => 0,
+        }
+    }
+
+    /// How many bytes of text all files have.
+    pub fn text_len(&self) -> u64
+        ensures size { result ≡ text_size (all_chunks self.now) }
+        ensures most { result ≤ 268435456 }
+    {
+        self.size
+    }
+
+    /// One file more at place `i`, after a change that made its document; without records it is none.
+    fn add(
+        &mut self,
+        alloc: Global,
+        i: usize,
+        name: &Name,
+        document: Document,
+        change: Change,
+    ) -> Result<Change, AllocError>
+        requires place { IsGap name.now self.old i }
+        requires document { document ≡ chunks_of (joined document) }
+        requires room { (document ≢ []) → length self.old < 65536 }
+        requires small { text_size (all_chunks self.old) + text_size document ≤ 268435456 }
+        requires first { change.first ≡ 0 }
+        ensures ok { OnOk result (self.new ≡ with_file name.now document self.old) }
+        ensures change { IfOk result (λ c. c ≡ raised (chunks_before name.now self.old) change) }
+        ensures err { OnErr result (self.new ≡ self.old) }
+    {
+        let begin = file_begin(self.ends.as_slice(), i);
+        if document.chunk_count() == 0 {
+            return Ok(change.raised(begin));
+        }
+        let size = document.text_len();
+        let name = match name.copy(alloc) {
+            Ok(name) => name,
+            Err(e) => return Err(e),
+        };
+        match insert(&mut self.files, &mut self.ends, i, name, document) {
+            Ok(()) => (),
+            Err(e) => return Err(e),
+        }
+        self.size += size;
+        Ok(change.raised(begin))
+    }
+
+    /// Whether a file with these records would be one too many.
+    fn is_full(&self, records: &Records) -> bool
+        ensures { IsTrue result ↔ ((records.now ≢ []) × (length self.now ≡ 65536)) }
+    {
+        !records.is_empty() && self.files.len() == MOST_FILES
+    }
+
+    /// The edit of a file that is not there yet, and would stand at place `i`.
+    fn edit_new(
+        &mut self,
+        alloc: Global,
+        i: usize,
+        name: &Name,
+        at: u32,
+        del: u32,
+        ins: &Records,
+    ) -> Result<Change, EditFault>
+        requires { IsGap name.now self.old i }
+        ensures answers { Answers ((length (joined (file_at name.now self.old)) < at + del) ⊎ IsOneTooMany ins.now name.now self.old) (268435456 < text_size (all_chunks (with_file name.now (edited at del ins.now (file_at name.now self.old)) self.old))) result }
+        ensures ok { OnOk result (self.new ≡ with_file name.now (edited at del ins.now (file_at name.now self.old)) self.old) }
+        ensures change { IfOk result (IsEditOf at del ins.now name.now self.old) }
+        ensures splice { IfOk result (IsSplice (all_chunks self.old) (all_chunks self.new)) }
+        ensures err { OnErr result (self.new ≡ self.old) }
+    {
+        if self.is_full(ins) {
+            return Err(EditFault::TooMany);
+        }
+        let mut document = Document::new(alloc);
+        let change = match document.edit_beside(alloc, at, del, ins, self.size) {
+            Ok(change) => change,
+            Err(fault) => return Err(fault),
+        };
+        match self.add(alloc, i, name, document, change) {
+            Ok(change) => Ok(change),
+            Err(_) => Err(EditFault::Mem),
+        }
+    }
+
+    /// The edit of the file with this name.
+    pub fn edit(
+        &mut self,
+        alloc: Global,
+        name: &Name,
+        at: u32,
+        del: u32,
+        ins: &Records,
+    ) -> Result<Change, EditFault>
+        ensures answers { Answers ((length (joined (file_at name.now self.old)) < at + del) ⊎ IsOneTooMany ins.now name.now self.old) (268435456 < text_size (all_chunks (with_file name.now (edited at del ins.now (file_at name.now self.old)) self.old))) result }
+        ensures ok { OnOk result (self.new ≡ with_file name.now (edited at del ins.now (file_at name.now self.old)) self.old) }
+        ensures change { IfOk result (IsEditOf at del ins.now name.now self.old) }
+        ensures splice { IfOk result (IsSplice (all_chunks self.old) (all_chunks self.new)) }
+        ensures err { OnErr result (self.new ≡ self.old) }
+    {
+        let i = match find_file(self.files.as_slice(), name) {
+            Ok(i) => i,
+            Err(i) => return self.edit_new(alloc, i, name, at, del, ins),
+        };
+        let begin = file_begin(self.ends.as_slice(), i);
+        let others = self.size - self.files[i].1.text_len();
+        let change = match self.files[i].1.edit_beside(alloc, at, del, ins, others) {
+            Ok(change) => change,
+            Err(fault) => return Err(fault),
+        };
+        self.size = others + self.files[i].1.text_len();
+        settle(&mut self.files, &mut self.ends, i);
+        Ok(change.raised(begin))
+    }
+
+    /// The load of a file that is not there yet, and would stand at place `i`.
+    fn load_new(
+        &mut self,
+        alloc: Global,
+        i: usize,
+        name: &Name,
+        records: &Records,
+    ) -> Result<Change, EditFault>
+        requires { IsGap name.now self.old i }
+        ensures answers { Answers (IsOneTooMany records.now name.now self.old) (268435456 < text_size (all_chunks (with_file name.now (chunks_of records.now) self.old))) result }
+        ensures ok { OnOk result (self.new ≡ with_file name.now (chunks_of records.now) self.old) }
+        ensures change { IfOk result (IsLoadOf (chunks_of records.now) name.now self.old) }
+        ensures splice { IfOk result (IsSplice (all_chunks self.old) (all_chunks self.new)) }
+        ensures err { OnErr result (self.new ≡ self.old) }
+    {
+        if self.is_full(records) {
+            return Err(EditFault::TooMany);
+        }
+        let mut document = Document::new(alloc);
+        let change = match document.load_beside(alloc, records, self.size) {
+            Ok(change) => change,
+            Err(fault) => return Err(fault),
+        };
+        match self.add(alloc, i, name, document, change) {
+            Ok(change) => Ok(change),
+            Err(_) => Err(EditFault::Mem),
+        }
+    }
+
+    /// The load of the file with this name.
+    pub fn load(
+        &mut self,
+        alloc: Global,
+        name: &Name,
+        records: &Records,
+    ) -> Result<Change, EditFault>
+        ensures answers { Answers (IsOneTooMany records.now name.now self.old) (268435456 < text_size (all_chunks (with_file name.now (chunks_of records.now) self.old))) result }
+        ensures ok { OnOk result (self.new ≡ with_file name.now (chunks_of records.now) self.old) }
+        ensures change { IfOk result (IsLoadOf (chunks_of records.now) name.now self.old) }
+        ensures splice { IfOk result (IsSplice (all_chunks self.old) (all_chunks self.new)) }
+        ensures err { OnErr result (self.new ≡ self.old) }
+    {
+        let i = match find_file(self.files.as_slice(), name) {
+            Ok(i) => i,
+            Err(i) => return self.load_new(alloc, i, name, records),
+        };
+        let begin = file_begin(self.ends.as_slice(), i);
+        let others = self.size - self.files[i].1.text_len();
+        let change = match self.files[i].1.load_beside(alloc, records, others) {
+            Ok(change) => change,
+            Err(fault) => return Err(fault),
+        };
+        self.size = others + self.files[i].1.text_len();
+        settle(&mut self.files, &mut self.ends, i);
+        Ok(change.raised(begin))
+    }
+
+    /// The file with this name goes. It takes no memory.
+    pub fn remove(&mut self, name: &Name) -> Change
+        ensures files { self.new ≡ with_file name.now [] self.old }
+        ensures change { IsLoadOf [] name.now self.old result }
+        ensures splice { IsSplice (all_chunks self.old) (all_chunks self.new) result }
+    {
+        let i = match find_file(self.files.as_slice(), name) {
+            Ok(i) => i,
+            Err(i) => {
+                let first = file_begin(self.ends.as_slice(), i);
+                return Change {
+                    first,
+                    gone: 0,
+                    fresh: 0,
+                };
+            }
+        };
+        let first = file_begin(self.ends.as_slice(), i);
+        let gone = self.files[i].1.chunk_count();
+        self.size -= self.files[i].1.text_len();
+        take_out(&mut self.files, &mut self.ends, i);
+        Change {
+            first,
+            gone,
+            fresh: 0,
+        }
+    }
+}

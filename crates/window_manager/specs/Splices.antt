@@ -1,0 +1,67 @@
+-- How the leaves of a document changed since its last run.
+use Rattle.std.specs.Prelude.{◌≡◌, ℕ, ◌+◌, ◌-◌, ◌≤◌, ◌==◌, ◌&&◌, min, if◌then◌else◌, List, [], length, Option, Result, Ok, Err}
+use Rattle.std.specs.declared.option.Option.TheVariants.{Some, None}
+use Rattle.marker_chunker.specs.Cuts.{chunks_of}
+use Rattle.chunk_store.specs.declared.change.Change.{Change}
+use Rattle.chunk_store.specs.Files.{IsEditOf, IsLoadOf}
+use Rattle.record_text.specs.declared.command.Command.{Command}
+use Rattle.record_text.specs.declared.command.Command.TheVariants.{Remove, Edit, Load}
+use Rattle.record_text.specs.declared.shift.Shift.{Shift}
+use Rattle.record_text.specs.declared.shift.Shift.TheVariants.{Slide, Splice}
+use Rattle.record_text.specs.declared.kind.Kind.TheVariants as Kinds
+use Rattle.window_manager.specs.Windows.{WindowState, empty_window, window_after, refusal_of}
+use Rattle.window_manager.specs.declared.fault.WindowFault.{WindowFault}
+use Rattle.window_manager.specs.declared.fault.WindowFault.TheVariants.{Mem}
+
+-- what lies between the leaves kept in front and those kept at the end, of `stood` old leaves and `count` new ones
+abbrev pub between : ℕ → ℕ → ℕ → ℕ → Shift
+between stood count first kept = Splice first (stood - kept - first) (count - kept - first)
+
+-- the splice once a change came behind it: `stood` leaves were there at the last run, `old` before the change and `new`
+-- after it
+abbrev pub splice_after : ℕ → ℕ → ℕ → Shift → Change → Shift
+splice_after stood old new (Splice first gone fresh) change =
+    if (change.gone == 0) && (change.fresh == 0) then Splice first gone fresh
+    else if (gone == 0) && (fresh == 0) then Splice change.first change.gone change.fresh
+    else between stood new (min first change.first) (min (stood - (first + gone)) (old - (change.first + change.gone)))
+splice_after stood old new (Slide first gone places fresh) change = Slide first gone places fresh
+
+-- the change that a command makes of the chunks of a window's files: none but by an edit, a load or a removal
+abbrev pub IsChangeOf : WindowState → Command → Change → Type 0
+IsChangeOf w (Edit at del ins) change = IsEditOf at del ins w.current w.files change
+IsChangeOf w (Load records) change = IsLoadOf (chunks_of records) w.current w.files change
+IsChangeOf w (Remove name) change = IsLoadOf [] name w.files change
+IsChangeOf w c change = (change.gone ≡ 0) × (change.fresh ≡ 0)
+
+-- a splice from `stood` leaves to `count`: as many are kept at the end of both
+abbrev pub FitsSplice : ℕ → Shift → ℕ → Type 0
+FitsSplice stood (Splice first gone fresh) count = (first + gone ≤ stood) × (first + fresh ≤ count) × (stood + fresh ≡ count + gone)
+FitsSplice stood (Slide first gone places fresh) count = ⊥
+
+-- a document: what it holds, how many leaves stood at the last run, and the splice since then
+pub record DocumentView : Type 0 where
+  pub window : WindowState
+  pub stood : ℕ
+  pub splice : Shift
+
+-- before the first command
+abbrev pub no_document : ℕ → DocumentView
+no_document places = record { window = empty_window Kinds.Document places; stood = 0; splice = Splice 0 0 0 }
+
+-- after a run
+abbrev pub document_anew : DocumentView → DocumentView
+document_anew v = record { window = v.window; stood = length v.window.leaves; splice = Splice 0 0 0 }
+
+-- after a command that a document carried out
+pub record IsAfter (old new : DocumentView) (c : Command) : Type 0 where
+  pub window : new.window ≡ window_after old.window c
+  pub stood : new.stood ≡ old.stood
+  pub change : Change
+  pub changes : IsChangeOf old.window c change
+  pub splice : new.splice ≡ splice_after old.stood (length old.window.leaves) (length new.window.leaves) old.splice change
+
+-- a command was carried out, or refused with the document as it was: want of memory comes only where nothing refuses it
+abbrev pub Edits : Option WindowFault → DocumentView → DocumentView → Command → Result (Unit {0}) WindowFault → Type 0
+Edits refusal old new c (Ok done) = (refusal ≡ None) × IsAfter old new c
+Edits refusal old new c (Err Mem) = (refusal ≡ None) × (new ≡ old)
+Edits refusal old new c (Err fault) = (refusal ≡ Some fault) × (new ≡ old)

@@ -1,0 +1,37 @@
+// How the leaves of a document changed since its last run.
+ghost use Rattle.std.specs.Prelude.{◌≡◌, ◌≤◌, ◌+◌};
+ghost use Rattle.window_manager.specs.Splices.{FitsSplice, splice_after};
+
+use chunk_store::Change;
+use record_text::Shift;
+
+/// A change came: of `old` leaves it made `new` ones, and `stood` were there at the last run. The numbers are put
+/// together, so no leaf is looked at.
+pub fn splice_on(shift: &mut Shift, stood: usize, old: usize, new: usize, change: Change)
+    requires fits { FitsSplice stood shift.old old }
+    requires old { change.first + change.gone ≤ old }
+    requires new { change.first + change.fresh ≤ new }
+    requires kept { old + change.fresh ≡ new + change.gone }
+    ensures after { shift.new ≡ splice_after stood old new shift.old change }
+    ensures fits { FitsSplice stood shift.new new }
+{
+    match shift {
+        Shift::Splice { first, gone, fresh } => {
+            if change.gone == 0 && change.fresh == 0 {
+                return;
+            }
+            if *gone == 0 && *fresh == 0 {
+                *first = change.first;
+                *gone = change.gone;
+                *fresh = change.fresh;
+                return;
+            }
+            let kept = (stood - (*first + *gone)).min(old - (change.first + change.gone));
+            let from = (*first).min(change.first);
+            *first = from;
+            *gone = stood - kept - from;
+            *fresh = new - kept - from;
+        }
+        Shift::Slide { .. } => unreachable!(),
+    }
+}
