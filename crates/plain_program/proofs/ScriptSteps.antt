@@ -6,6 +6,7 @@ use Rattle.std.specs.Option.{option_or}
 use Rattle.record_text.specs.declared.command.Command.{Command}
 use Rattle.record_text.specs.declared.script_fault.ScriptFault.{ScriptFault}
 use Rattle.record_text.specs.Script.{Script, Ending, with_command}
+use Rattle.window_manager.specs.Windows.{WindowState}
 use Rattle.slider_session.specs.Output.{Meaning, after_bytes, outcome_from, outcome_of}
 use Rattle.plain_program.specs.Plain.{ending_of_rest}
 use Rattle.plain_program.specs.Walk.{walked_from}
@@ -26,6 +27,6 @@ first_fault None fault ending = refl
 first_fault (Some f) fault ending = refl
 
 -- a walk from the start over all commands of a script is its outcome
-pub whole_walk : {V : Type 0} (j : Meaning V) (walk : PlainWalk) (commands : List (Command × ℕ)) (ending : Ending) (script : Script) → walk.run ≡ 1 → walk.leaves.items ≡ [] → walk.written.items ≡ [] → (commands, ending) ≡ script → walked_from j walk commands ending ≡ outcome_of j script
+pub whole_walk : {V : Type 0} (j : Meaning V) (w : WindowState) (walk : PlainWalk) (commands : List (Command × ℕ)) (ending : Ending) (script : Script) → walk.run ≡ 1 → walk.window ≡ w → walk.written.items ≡ [] → (commands, ending) ≡ script → walked_from j walk commands ending ≡ outcome_of j w script
 unfolding outcome_of
-whole_walk j walk commands ending script run leaves written is = λ i. after_bytes (written i) (outcome_from j (run i) (leaves i) (is i).0 (is i).1)
+whole_walk j w walk commands ending script run window written is = λ i. after_bytes (written i) (outcome_from j (run i) (window i) (is i).0 (is i).1)

@@ -1,22 +1,22 @@
 -- A window that takes no refused record holds accepted records.
 use Rattle.std.proofs.Common.{◌≡◌, ℕ, zero, suc, ◌+◌, ◌-◌, Bool, true, false, not, List, [], ◌∷◌, ◌++◌, length, take, drop, refl, sym, subst, All, cond}
-use Rattle.std.specs.Prelude.{Option, if◌then◌else◌, IsTrue, unwrap_or}
+use Rattle.std.specs.Prelude.{Option, if◌then◌else◌, IsTrue}
 use Rattle.std.specs.declared.option.Option.TheVariants.{Some, None}
-use Rattle.std.specs.declared.cmp.Ordering.TheVariants.{Less, Equal, Greater}
-use Rattle.std.specs.Ordering.{eq_by_cmp}
-use Rattle.std.specs.FinMap.Entries.{find, put, by_order}
+use Rattle.std.specs.Ordering.{is_lt, eq_by_cmp}
 use Rattle.std.proofs.lemmas.List.Elements.{All-nil, All-cons, All-head, All-tail, All-append, All-push, All-take, All-drop, All-filter}
 use Rattle.definitions.specs.Tables.{HasGoodValues}
 use Rattle.definitions.specs.Answer.{pairs_of}
 use Rattle.definitions.proofs.AnswerLaws.{good-append}
 use Rattle.marker_chunker.specs.Cuts.{chunks_of, joined}
 use Rattle.marker_chunker.proofs.CutLaws.{joined_chunks}
+use Rattle.chunk_store.specs.Documents.{spliced}
+use Rattle.chunk_store.specs.Files.{File as NamedFile, all_chunks, file_at, file_of, with_file, smaller, greater}
 use Rattle.record_text.specs.Names.{name_cmp}
 use Rattle.record_text.specs.declared.kind.Kind.{Kind}
 use Rattle.record_text.specs.declared.kind.Kind.TheVariants as Kinds
 use Rattle.record_text.specs.declared.command.Command.{Command}
 use Rattle.record_text.specs.declared.command.Command.TheVariants.{Bucket, Drop, Late, File, Remove, Edit, Load, Run}
-use Rattle.window_manager.specs.Windows.{Leaf, Files, WindowState, empty_window, records_in, without_file, with_file, chunks_in, with_leaf, with_late, spliced, current_records, window_after, has_command, asks_too_many, brought, refused_from, first_refused, is_large, record_refusal, refusal_of}
+use Rattle.window_manager.specs.Windows.{Leaf, WindowState, empty_window, with_leaf, with_late, with_files, current_records, with_current, window_after, has_command, asks_too_many, brought, refused_from, first_refused, is_large, record_refusal, refusal_of}
 use Rattle.window_manager.specs.declared.fault.WindowFault.{WindowFault}
 use Rattle.window_manager.specs.declared.fault.WindowFault.TheVariants.{NotHere, TooMany}
 use Rattle.slider_session.specs.Accepted.{AllAccepted, HoldsAccepted}
@@ -65,38 +65,35 @@ module _ (accepts : List ℕ → Bool) where
   leaves_accepted [] all = All-nil (AllAccepted accepts)
   leaves_accepted (leaf ∷ leaves) all = All-cons (AllAccepted accepts) leaf leaves (All-left (λ r. IsTrue (accepts r)) leaf (joined leaves) all) (leaves_accepted leaves (All-right (λ r. IsTrue (accepts r)) leaf (joined leaves) all))
 
-  chunks_accepted : (files : Files) → All (λ f. AllAccepted accepts f.1) files → All (AllAccepted accepts) (chunks_in files)
-  chunks_accepted [] all = All-nil (AllAccepted accepts)
-  chunks_accepted (f ∷ fs) all = All-append (AllAccepted accepts) (chunks_of f.1) (chunks_in fs)
-      (leaves_accepted (chunks_of f.1) (subst (AllAccepted accepts) (sym (joined_chunks f.1)) (All-head (λ f. AllAccepted accepts f.1) f fs all)))
-      (chunks_accepted fs (All-tail (λ f. AllAccepted accepts f.1) f fs all))
+  -- a file with accepted records
+  abbrev Taken : NamedFile → Type 0
+  Taken f = All (AllAccepted accepts) f.1
 
-  file_accepted : (name : List ℕ) (files : Files) → All (λ f. AllAccepted accepts f.1) files → AllAccepted accepts (records_in files name)
-  file_accepted name [] all = All-nil (λ r. IsTrue (accepts r))
-  file_accepted name (f ∷ fs) all = elim (eq_by_cmp name_cmp name f.0) as (λ b. AllAccepted accepts (unwrap_or (cond b (Some f.1) (find name_cmp name fs)) [])) [
-    | true ↦ All-head (λ f. AllAccepted accepts f.1) f fs all
-    | false ↦ file_accepted name fs (All-tail (λ f. AllAccepted accepts f.1) f fs all)
+  chunks_accepted : (files : List NamedFile) → All Taken files → All (AllAccepted accepts) (all_chunks files)
+  chunks_accepted [] all = All-nil (AllAccepted accepts)
+  chunks_accepted (f ∷ fs) all = All-append (AllAccepted accepts) f.1 (all_chunks fs) (All-head Taken f fs all) (chunks_accepted fs (All-tail Taken f fs all))
+
+  file_accepted : (name : List ℕ) (files : List NamedFile) → All Taken files → All (AllAccepted accepts) (file_at name files)
+  file_accepted name [] all = All-nil (AllAccepted accepts)
+  file_accepted name (f ∷ fs) all = elim (eq_by_cmp name_cmp name f.0) as (λ b. All (AllAccepted accepts) (cond b f.1 (file_at name fs))) [
+    | true ↦ All-head Taken f fs all
+    | false ↦ file_accepted name fs (All-tail Taken f fs all)
   ]
 
-  put_accepted : (name : List ℕ) (records : List (List ℕ)) (files : Files) → AllAccepted accepts records → All (λ f. AllAccepted accepts f.1) files → All (λ f. AllAccepted accepts f.1) (put name_cmp name records files)
-  put_accepted name records [] new all = All-cons (λ f. AllAccepted accepts f.1) (name, records) [] new all
-  put_accepted name records (f ∷ fs) new all =
-      let rest = All-tail (λ f. AllAccepted accepts f.1) f fs all in
-      elim (name_cmp name f.0) as (λ o. All (λ f. AllAccepted accepts f.1) (by_order o ((name, records) ∷ f ∷ fs) ((f.0, records) ∷ fs) (f ∷ put name_cmp name records fs))) [
-        | Less ↦ All-cons (λ f. AllAccepted accepts f.1) (name, records) (f ∷ fs) new all
-        | Equal ↦ All-cons (λ f. AllAccepted accepts f.1) (f.0, records) fs new rest
-        | Greater ↦ All-cons (λ f. AllAccepted accepts f.1) f (put name_cmp name records fs) (All-head (λ f. AllAccepted accepts f.1) f fs all) (put_accepted name records fs new rest)
-      ]
+  one_accepted : (name : List ℕ) (chunks : List Leaf) → All (AllAccepted accepts) chunks → All Taken (file_of name chunks)
+  one_accepted name [] new = All-nil Taken
+  one_accepted name (c ∷ cs) new = All-cons Taken (name, c ∷ cs) [] new (All-nil Taken)
 
-  without_accepted : (name : List ℕ) (files : Files) → All (λ f. AllAccepted accepts f.1) files → All (λ f. AllAccepted accepts f.1) (without_file files name)
-  without_accepted name files all = All-filter (λ f. not (eq_by_cmp name_cmp name f.0)) (λ f. AllAccepted accepts f.1) files all
+  with_accepted : (name : List ℕ) (chunks : List Leaf) (files : List NamedFile) → All (AllAccepted accepts) chunks → All Taken files → All Taken (with_file name chunks files)
+  with_accepted name chunks files new all = All-append Taken (smaller name files) (file_of name chunks ++ greater name files) (All-filter (λ f. is_lt (name_cmp f.0 name)) Taken files all)
+      (All-append Taken (file_of name chunks) (greater name files) (one_accepted name chunks new) (All-filter (λ f. is_lt (name_cmp name f.0)) Taken files all))
 
-  with_accepted : (name : List ℕ) (records : List (List ℕ)) (files : Files) → AllAccepted accepts records → All (λ f. AllAccepted accepts f.1) files → All (λ f. AllAccepted accepts f.1) (with_file files name records)
-  with_accepted name [] files new all = without_accepted name files all
-  with_accepted name (r ∷ rs) files new all = put_accepted name (r ∷ rs) files new all
-
-  of_files : (w : WindowState) (files : Files) → All (λ f. AllAccepted accepts f.1) files → HoldsAccepted accepts (record w { leaves = chunks_in files; files = files })
+  of_files : (w : WindowState) (files : List NamedFile) → All Taken files → HoldsAccepted accepts (with_files w files)
   of_files w files all = record { leaves = chunks_accepted files all; files = all }
+
+  of_current : (w : WindowState) (records : List (List ℕ)) → AllAccepted accepts records → HoldsAccepted accepts w → HoldsAccepted accepts (with_current w records)
+  of_current w records new holds = of_files w (with_file w.current (chunks_of records) w.files)
+      (with_accepted w.current (chunks_of records) w.files (leaves_accepted (chunks_of records) (subst (AllAccepted accepts) (sym (joined_chunks records)) new)) holds.files)
 
   with_leaf_accepted : (kind : Kind) (places : ℕ) (leaves : List Leaf) (leaf : Leaf) → AllAccepted accepts leaf → All (AllAccepted accepts) leaves → All (AllAccepted accepts) (with_leaf kind places leaves leaf)
   with_leaf_accepted Kinds.Circle places leaves leaf new all = All-drop (AllAccepted accepts) (length (leaves ++ leaf ∷ []) - places) (leaves ++ leaf ∷ []) (All-push (AllAccepted accepts) leaves leaf all new)
@@ -119,9 +116,9 @@ module _ (accepts : List ℕ → Bool) where
   after_accepted w (Drop n) new holds = record { leaves = All-drop (AllAccepted accepts) n w.leaves holds.leaves; files = holds.files }
   after_accepted w (Late place more) new holds = record { leaves = with_late_accepted place more w.leaves new holds.leaves; files = holds.files }
   after_accepted w (File name) new holds = record { leaves = holds.leaves; files = holds.files }
-  after_accepted w (Remove name) new holds = of_files w (without_file w.files name) (without_accepted name w.files holds.files)
-  after_accepted w (Edit at del ins) new holds = of_files w (with_file w.files w.current (spliced at del ins (current_records w))) (with_accepted w.current (spliced at del ins (current_records w)) w.files (spliced_accepted at del ins (current_records w) new (file_accepted w.current w.files holds.files)) holds.files)
-  after_accepted w (Load records) new holds = of_files w (with_file w.files w.current records) (with_accepted w.current records w.files new holds.files)
+  after_accepted w (Remove name) new holds = of_files w (with_file name [] w.files) (with_accepted name [] w.files (All-nil (AllAccepted accepts)) holds.files)
+  after_accepted w (Edit at del ins) new holds = of_current w (spliced at del ins (current_records w)) (spliced_accepted at del ins (current_records w) new (joined_accepted (file_at w.current w.files) (file_accepted w.current w.files holds.files))) holds
+  after_accepted w (Load records) new holds = of_current w records new holds
   after_accepted w Run new holds = holds
 
   -- a command that is not refused leaves a window of accepted records
@@ -130,4 +127,4 @@ module _ (accepts : List ℕ → Bool) where
 
   -- an empty window holds no record
   pub none_held : (kind : Kind) (places : ℕ) → HoldsAccepted accepts (empty_window kind places)
-  none_held kind places = record { leaves = All-nil (AllAccepted accepts); files = All-nil (λ f. AllAccepted accepts f.1) }
+  none_held kind places = record { leaves = All-nil (AllAccepted accepts); files = All-nil Taken }

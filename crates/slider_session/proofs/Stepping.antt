@@ -9,10 +9,9 @@ use Rattle.record_text.specs.declared.command.Command.TheVariants.{Bucket, Drop,
 use Rattle.record_text.specs.declared.script_fault.ScriptFault.{ScriptFault}
 use Rattle.record_text.specs.Script.{Ending, Faulty}
 use Rattle.window_manager.specs.Windows.{WindowState, window_after, refusal_of}
-use Rattle.window_manager.specs.Whole.{view_after}
 use Rattle.window_manager.specs.declared.fault.WindowFault.{WindowFault}
 use Rattle.slider_session.specs.Output.{Meaning, Outcome, after_bytes, ended_by, unless_refused, on_command}
-use Rattle.slider_session.specs.Calls.{Held, Changes, Answers, Steps, next_piece}
+use Rattle.slider_session.specs.Calls.{Held, state_of, accepted_of, Changes, Answers, Steps, next_piece}
 use Rattle.slider_session.specs.declared.halt.Halt.{Halt}
 use Rattle.slider_session.specs.declared.halt.Halt.TheVariants as Halts
 
@@ -25,20 +24,20 @@ module _ {V : Type 0} (j : Meaning V) (old new : Held) (c : Command) (line : ℕ
   pub record Goes : Type 0 where
     pub gain : List ℕ
     pub written : Told before now (λ bytes more. more ≡ bytes ++ gain)
-    pub goes : (go : Going) → on_command j (old.runs + 1) old.window.window c line go ≡ after_bytes gain (go (new.runs + 1) new.window.window)
+    pub goes : (go : Going) → on_command j (old.runs + 1) (state_of old) c line go ≡ after_bytes gain (go (new.runs + 1) (state_of new))
     pub runs : new.runs ≤ old.runs + 1
-    pub accepted : new.window.slid.accepted ≤ old.window.slid.accepted + 1
+    pub accepted : accepted_of new ≤ accepted_of old + 1
     pub setting : new.setting ≡ old.setting
 
   -- a command was cut short: a front of what it writes was written
   pub record IsCut : Type 0 where
     pub gain : List ℕ
     pub written : Told before now (λ bytes more. more ≡ bytes ++ gain)
-    pub front : (go : Going) → IsFront gain (on_command j (old.runs + 1) old.window.window c line go).0
+    pub front : (go : Going) → IsFront gain (on_command j (old.runs + 1) (state_of old) c line go).0
 
   -- a command was refused: the script ends there, and nothing was written
   pub record IsRefused (fault : ScriptFault) : Type 0 where
-    pub ends : (go : Going) → on_command j (old.runs + 1) old.window.window c line go ≡ ([], Faulty fault.line fault.why)
+    pub ends : (go : Going) → on_command j (old.runs + 1) (state_of old) c line go ≡ ([], Faulty fault.line fault.why)
     pub unwritten : now ≡ before
 
   -- what a step comes to
@@ -53,34 +52,23 @@ module _ {V : Type 0} (j : Meaning V) (old new : Held) (c : Command) (line : ℕ
 unwritten : (before now : Option (List ℕ)) → now ≡ before → Told before now (λ bytes more. more ≡ bytes ++ [])
 unwritten before now same = subst (λ (o : Option (List ℕ)). Told before o (λ bytes more. more ≡ bytes ++ [])) (sym same) (told_same before (λ bytes more. more ≡ bytes ++ []) (λ x. sym (append-nil x)))
 
--- a command accepts at most one bucket more
-one_more : (h : Held) (c : Command) → (view_after h.window c).slid.accepted ≤ h.window.slid.accepted + 1
-one_more h (Bucket records) = omega arith
-one_more h (Drop n) = omega arith
-one_more h (Late place more) = omega arith
-one_more h (File name) = omega arith
-one_more h (Remove name) = omega arith
-one_more h (Edit at del ins) = omega arith
-one_more h (Load records) = omega arith
-one_more h Run = omega arith
-
 module _ {V : Type 0} (j : Meaning V) (old new : Held) (line : ℕ) (before now : Option (List ℕ)) where
   -- the window's command, where `on_command` is the window's
-  module _ (c : Command) (windows : (go : Going) → on_command j (old.runs + 1) old.window.window c line go ≡ unless_refused (refusal_of j.accepts old.window.window c) line (go (old.runs + 1) (window_after old.window.window c))) where
+  module _ (c : Command) (windows : (go : Going) → on_command j (old.runs + 1) (state_of old) c line go ≡ unless_refused (refusal_of j.accepts (state_of old) c) line (go (old.runs + 1) (window_after (state_of old) c))) where
     pub change_comes : (result : Result (Unit {0}) Halt) → Changes j.accepts old new c line result → now ≡ before → ComesTo j old new c line before now result
     change_comes (Ok done) a same = record {
       gain = [];
       written = unwritten before now same;
       goes = λ go. windows go
-          ∙ ap (λ o. unless_refused o line (go (old.runs + 1) (window_after old.window.window c))) a.0
-          ∙ ap (λ (h : Held). go (h.runs + 1) h.window.window) (sym a.1);
-      runs = subst (λ (h : Held). h.runs ≤ old.runs + 1) (sym a.1) (omega arith);
-      accepted = subst (λ (h : Held). h.window.slid.accepted ≤ old.window.slid.accepted + 1) (sym a.1) (one_more old c);
-      setting = ap (λ (h : Held). h.setting) a.1;
+          ∙ ap (λ o. unless_refused o line (go (old.runs + 1) (window_after (state_of old) c))) a.0
+          ∙ (λ i. go (sym (ap (λ (h : Held). h.runs) a.2) i + 1) (sym a.1.window i));
+      runs = let same = ap (λ (h : Held). h.runs) a.2 in omega (arith, same);
+      accepted = a.1.accepted;
+      setting = ap (λ (h : Held). h.setting) a.2;
     }
     change_comes (Err (Halts.Script fault)) a same = record {
       ends = λ go. windows go
-          ∙ ap (λ o. unless_refused o line (go (old.runs + 1) (window_after old.window.window c))) a.1
+          ∙ ap (λ o. unless_refused o line (go (old.runs + 1) (window_after (state_of old) c))) a.1
           ∙ ap (λ (e : Ending). ([], e)) a.2;
       unwritten = same;
     }
@@ -89,7 +77,7 @@ module _ {V : Type 0} (j : Meaning V) (old new : Held) (line : ℕ) (before now 
     change_comes (Err Halts.Mem) a same = record {
       gain = [];
       written = unwritten before now same;
-      front = λ go. ((on_command j (old.runs + 1) old.window.window c line go).0, refl);
+      front = λ go. ((on_command j (old.runs + 1) (state_of old) c line go).0, refl);
     }
 
   -- a front of the next piece was written, as far as it is told
@@ -106,8 +94,8 @@ module _ {V : Type 0} (j : Meaning V) (old new : Held) (line : ℕ) (before now 
         gain = cut.0;
         written = cut.2;
         front = λ go. (
-          cut.1.0 ++ (go (old.runs + 1 + 1) old.window.window).0,
-          ap (λ (l : List ℕ). l ++ (go (old.runs + 1 + 1) old.window.window).0) cut.1.1 ∙ append_assoc cut.0 cut.1.0 (go (old.runs + 1 + 1) old.window.window).0,
+          cut.1.0 ++ (go (old.runs + 1 + 1) (state_of old)).0,
+          ap (λ (l : List ℕ). l ++ (go (old.runs + 1 + 1) (state_of old)).0) cut.1.1 ∙ append_assoc cut.0 cut.1.0 (go (old.runs + 1 + 1) (state_of old)).0,
         );
       }
 
@@ -115,9 +103,9 @@ module _ {V : Type 0} (j : Meaning V) (old new : Held) (line : ℕ) (before now 
   answer_comes (Ok done) a = record {
     gain = next_piece j old;
     written = a.1;
-    goes = λ go. ap (λ (h : Held). after_bytes (next_piece j old) (go (h.runs + 1) h.window.window)) (sym a.0);
+    goes = λ go. ap (λ (h : Held). after_bytes (next_piece j old) (go (h.runs + 1) (state_of h))) (sym a.0);
     runs = subst (λ (h : Held). h.runs ≤ old.runs + 1) (sym a.0) (omega arith);
-    accepted = subst (λ (h : Held). h.window.slid.accepted ≤ old.window.slid.accepted + 1) (sym a.0) (omega arith);
+    accepted = subst (λ (h : Held). accepted_of h ≤ accepted_of old + 1) (sym a.0) (omega arith);
     setting = ap (λ (h : Held). h.setting) a.0;
   }
   answer_comes (Err (Halts.Script fault)) a = absurd a
@@ -126,7 +114,7 @@ module _ {V : Type 0} (j : Meaning V) (old new : Held) (line : ℕ) (before now 
   answer_comes (Err Halts.Mem) (inl a) = record {
     gain = [];
     written = unwritten before now a.1;
-    front = λ go. ((on_command j (old.runs + 1) old.window.window Run line go).0, refl);
+    front = λ go. ((on_command j (old.runs + 1) (state_of old) Run line go).0, refl);
   }
   answer_comes (Err Halts.Mem) (inr a) = cut_in_piece a.1
 

@@ -9,4 +9,4 @@ AllAccepted accepts records = All (λ r. IsTrue (accepts r)) records
 -- each record of a window is accepted
 pub record HoldsAccepted (accepts : List ℕ → Bool) (w : WindowState) : Type 0 where
   pub leaves : All (AllAccepted accepts) w.leaves
-  pub files : All (λ f. AllAccepted accepts f.1) w.files
+  pub files : All (λ f. All (AllAccepted accepts) f.1) w.files

@@ -6,7 +6,7 @@ use Rattle.record_text.specs.declared.command.Command.{Command}
 use Rattle.record_text.specs.declared.command.Command.TheVariants.{Run}
 use Rattle.record_text.specs.Script.{Faulty}
 use Rattle.window_manager.specs.Windows.{WindowState, refusal_of}
-use Rattle.window_manager.specs.Whole.{WindowView, view_after, view_anew}
+use Rattle.window_manager.specs.Whole.{WindowView, IsNext, view_anew}
 use Rattle.window_manager.specs.declared.fault.WindowFault.{WindowFault}
 use Rattle.slider_session.specs.declared.settings.Settings.{Settings}
 use Rattle.slider_session.specs.declared.halt.Halt.{Halt}
@@ -20,14 +20,22 @@ pub record Held : Type 0 where
   pub runs : ℕ
   pub window : WindowView
 
+-- the window that a session holds
+abbrev pub state_of : Held → WindowState
+state_of h = h.window.window
+
+-- how many buckets it accepted
+abbrev pub accepted_of : Held → ℕ
+accepted_of h = h.window.accepted
+
 -- a command of the window was carried out, or refused on its line; nothing else was touched, and want of memory comes
 -- only where nothing refuses it
 abbrev pub Changes : (List ℕ → Bool) → Held → Held → Command → ℕ → Result (Unit {0}) Halt → Type 0
-Changes accepts old new c line (Ok done) = (refusal_of accepts old.window.window c ≡ None) × (new ≡ record old { window = view_after old.window c })
-Changes accepts old new c line (Err (Halts.Script fault)) = (refused : WindowFault) × (refusal_of accepts old.window.window c ≡ Some refused) × (ended_by line refused ≡ Faulty fault.line fault.why) × (new ≡ old)
+Changes accepts old new c line (Ok done) = (refusal_of accepts (state_of old) c ≡ None) × IsNext old.window new.window c × (new ≡ record old { window = new.window })
+Changes accepts old new c line (Err (Halts.Script fault)) = (refused : WindowFault) × (refusal_of accepts (state_of old) c ≡ Some refused) × (ended_by line refused ≡ Faulty fault.line fault.why) × (new ≡ old)
 Changes accepts old new c line (Err Halts.Read) = ⊥
 Changes accepts old new c line (Err Halts.Write) = ⊥
-Changes accepts old new c line (Err Halts.Mem) = (refusal_of accepts old.window.window c ≡ None) × (new ≡ old)
+Changes accepts old new c line (Err Halts.Mem) = (refusal_of accepts (state_of old) c ≡ None) × (new ≡ old)
 
 -- a run more was answered over the same window
 abbrev pub RunStands : Held → Held → Type 0
@@ -36,7 +44,7 @@ RunStands old new = new ≡ record old { runs = old.runs + 1; window = view_anew
 module _ {V : Type 0} (j : Meaning V) where
   -- what the next run writes
   abbrev pub next_piece : Held → List ℕ
-  next_piece h = piece j (h.runs + 1) h.window.window
+  next_piece h = piece j (h.runs + 1) (state_of h)
 
   -- a run was answered; where a write failed the run stands, and a front of its piece was written; where memory ran out
   -- it stands so too, or all is as before

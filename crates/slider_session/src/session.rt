@@ -5,7 +5,7 @@ ghost use Rattle.record_text.specs.declared.command.Command.TheVariants.{Run};
 ghost use Rattle.window_manager.specs.Whole.{new_window};
 ghost use Rattle.slider_session.specs.Output.{meaning};
 ghost use Rattle.slider_session.specs.Settings.{AreWithin};
-ghost use Rattle.slider_session.specs.Calls.{Held, Changes, Answers, Steps};
+ghost use Rattle.slider_session.specs.Calls.{Held, accepted_of, Changes, Answers, Steps};
 ghost use Rattle.slider_session.specs.Serving.{IsOfScript, FitsMeters, RefusalIs};
 
 use crate::answering::piece_of;
@@ -72,7 +72,7 @@ impl<J: Job> Session<J> {
     ) -> Result<(), Halt>
         requires line { line ≤ 2 ^ 62 }
         requires runs { self.old.runs < 2 ^ 63 }
-        requires accepted { self.old.window.slid.accepted < 2 ^ 63 }
+        requires accepted { accepted_of self.old < 2 ^ 63 }
         requires meters { FitsMeters meters.old.lanes.items meters.old.parts.items }
         ensures steps { Steps (meaning (J.accepts self.old.setting) (J.emits self.old.setting) (J.joined self.old.setting) (J.text self.old.setting)) self.old self.new c line (K.held out.old) (K.held out.new) result }
         ensures untouched { (c ≡ Run → ⊥) → (out.new ≡ out.old) × (meters.new ≡ meters.old) }
@@ -91,7 +91,7 @@ impl<J: Job> Session<J> {
     fn change(&mut self, alloc: Global, c: Command, line: u64) -> Result<(), Halt>
         requires window { c ≡ Run → ⊥ }
         requires line { line ≤ 2 ^ 62 }
-        requires accepted { self.old.window.slid.accepted < 2 ^ 63 }
+        requires accepted { accepted_of self.old < 2 ^ 63 }
         ensures changes { Changes (J.accepts self.old.setting) self.old self.new c line result }
         ensures script { IsOfScript result }
         ensures failed { IsErrOf result Halt.Write → ⊥ }

@@ -4,7 +4,7 @@ use Rattle.record_text.specs.Reader.{reading_of, source_of}
 use Rattle.record_text.proofs.ReadLaws.{uses_none}
 use Rattle.window_manager.specs.Windows.{WindowState, empty_window}
 use Rattle.slider_session.specs.Output.{meaning}
-use Rattle.slider_session.specs.Calls.{Held, Steps}
+use Rattle.slider_session.specs.Calls.{Held, state_of, accepted_of, Steps}
 use Rattle.slider_session.specs.Serving.{Serves}
 use Rattle.slider_session.specs.declared.serving.TheConstants.{MOST_SCRIPT}
 use Rattle.slider_session.proofs.Stepping.{step_comes}
@@ -25,12 +25,12 @@ commands-init g c =
       clear = n.fault;
       setting = refl;
       runs = omega (arith, zero);
-      accepted = let none = ap (λ (h : Held). h.window.slid.accepted) c.in-Ok.ensures in omega (arith, none);
+      accepted = let none = ap accepted_of c.in-Ok.ensures in omega (arith, none);
       meters = c.requires.meters;
       source_later = omega arith;
       later = omega arith;
       stands = begins j w MOST_SCRIPT (reading_of c.new-reader.result) c.in-Ok.session left (g.K.Sink.held c.args.out.now) zero
-          (ap (λ (h : Held). h.window.window) c.in-Ok.ensures)
+          (ap state_of c.in-Ok.ensures)
           n.line n.commands (uses_none (reading_of c.new-reader.result) left);
     }
 

@@ -1,6 +1,6 @@
 use Rattle.std.proofs.Common.{◌≡◌, drop}
-use Rattle.slider_session.specs.Window.{first_refused, refused_from}
-use Rattle.plain_program.proofs.walking.first_refused_record.Given as goal
+use Rattle.window_manager.specs.Windows.{first_refused, refused_from}
+use Rattle.plain_program.proofs.refusing.first_refused_record.Given as goal
 
 abbrev pub invariant-records : goal.invariant-records
 invariant-records g l =
