@@ -2,3 +2,4 @@ pub mod OneFile
 pub mod PlaceLaws
 pub mod TextLaws
 pub mod BucketLaws
+pub mod DocumentLaws

@@ -3,3 +3,4 @@ pub mod OlderRule
 pub mod Slides
 pub mod Buckets
 pub mod Splices
+pub mod Views

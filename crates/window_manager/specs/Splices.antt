@@ -1,17 +1,19 @@
 -- How the leaves of a document changed since its last run.
-use Rattle.std.specs.Prelude.{◌≡◌, ℕ, ◌+◌, ◌-◌, ◌≤◌, ◌==◌, ◌&&◌, min, if◌then◌else◌, List, [], length, Option, Result, Ok, Err}
+use Rattle.std.specs.Prelude.{◌≡◌, ℕ, ◌+◌, ◌-◌, ◌≤◌, Bool, true, false, not, ◌==◌, ◌&&◌, min, if◌then◌else◌, List, [], length, Option, Result, Ok, Err}
 use Rattle.std.specs.declared.option.Option.TheVariants.{Some, None}
 use Rattle.marker_chunker.specs.Cuts.{chunks_of}
 use Rattle.chunk_store.specs.declared.change.Change.{Change}
+use Rattle.chunk_store.specs.declared.change.EditFault.{EditFault}
+use Rattle.chunk_store.specs.declared.change.EditFault.TheVariants as EditFaults
 use Rattle.chunk_store.specs.Files.{IsEditOf, IsLoadOf}
 use Rattle.record_text.specs.declared.command.Command.{Command}
 use Rattle.record_text.specs.declared.command.Command.TheVariants.{Remove, Edit, Load}
 use Rattle.record_text.specs.declared.shift.Shift.{Shift}
 use Rattle.record_text.specs.declared.shift.Shift.TheVariants.{Slide, Splice}
 use Rattle.record_text.specs.declared.kind.Kind.TheVariants as Kinds
-use Rattle.window_manager.specs.Windows.{WindowState, empty_window, window_after, refusal_of}
+use Rattle.window_manager.specs.Windows.{WindowState, empty_window, window_after, has_command, asks_too_many, brought, first_refused, record_refusal}
 use Rattle.window_manager.specs.declared.fault.WindowFault.{WindowFault}
-use Rattle.window_manager.specs.declared.fault.WindowFault.TheVariants.{Mem}
+use Rattle.window_manager.specs.declared.fault.WindowFault.TheVariants.{NotHere, TooMany, WindowLarge, Mem}
 
 -- what lies between the leaves kept in front and those kept at the end, of `stood` old leaves and `count` new ones
 abbrev pub between : ℕ → ℕ → ℕ → ℕ → Shift
@@ -65,3 +67,23 @@ abbrev pub Edits : Option WindowFault → DocumentView → DocumentView → Comm
 Edits refusal old new c (Ok done) = (refusal ≡ None) × IsAfter old new c
 Edits refusal old new c (Err Mem) = (refusal ≡ None) × (new ≡ old)
 Edits refusal old new c (Err fault) = (refusal ≡ Some fault) × (new ≡ old)
+
+-- the refusal for all but the text that there would be
+abbrev pub early_refusal : (List ℕ → Bool) → WindowState → Command → Option WindowFault
+early_refusal accepts w c =
+    if not (has_command w.kind c) then Some NotHere
+    else if asks_too_many w c then Some TooMany
+    else record_refusal (first_refused accepts (brought c)) false
+
+-- the refusal of an edit or a load by the files, as one of the window
+abbrev pub fault_of : EditFault → WindowFault
+fault_of EditFaults.TooMany = TooMany
+fault_of EditFaults.WindowLarge = WindowLarge
+fault_of EditFaults.Mem = Mem
+
+-- the answer to a command that nothing refuses but the text that there would be
+abbrev pub Carried : Bool → Result (Unit {0}) WindowFault → Type 0
+Carried large (Ok done) = large ≡ false
+Carried large (Err WindowLarge) = large ≡ true
+Carried large (Err Mem) = large ≡ false
+Carried large (Err fault) = ⊥

@@ -1,16 +1,18 @@
 // A window over an edited document in files.
-ghost use Rattle.std.specs.Prelude.{◌≡◌, ◌<◌, [], false, None, length, slice_index_or};
+ghost use Rattle.std.specs.Prelude.{◌≡◌, ◌<◌, [], true, false, OnOk, OnErr, length, slice_index_or};
+ghost use Rattle.record_text.specs.declared.kind.Kind.TheVariants as Kinds;
 ghost use Rattle.record_text.specs.declared.command.Command.TheVariants.{Edit, File, Load, Remove};
-ghost use Rattle.window_manager.specs.Windows.{first_refused, is_one_too_many, record_refusal, refusal_of};
-ghost use Rattle.window_manager.specs.Splices.{Edits, FitsSplice, IsAfter, document_anew, no_document};
+ghost use Rattle.window_manager.specs.Windows.{asks_too_many, first_refused, has_command, is_large, is_one_too_many, record_refusal, refusal_of, window_after};
+ghost use Rattle.window_manager.specs.Splices.{Carried, Edits, FitsSplice, IsAfter, document_anew, early_refusal, fault_of, no_document};
+ghost use Rattle.chunk_store.specs.Documents.{text_size};
 
 use crate::WindowFault;
 use crate::records::first_refused_of;
 use crate::splice::splice_on;
-use chunk_store::{Change, EditFault, Files};
+use chunk_store::{EditFault, Files};
 use job_laws::Job;
-use record_text::{Bundle, Name, Records, Shift};
-use std::alloc::Global;
+use record_text::{Bundle, Command, Name, Records, Shift};
+use std::alloc::{AllocError, Global};
 use std::marker::Model;
 
 /// How many files may have records.
@@ -47,6 +49,17 @@ fn record_fault<J: Job>(job: &J, records: &Records) -> Option<WindowFault>
             index: index as u32,
         }),
         None => None,
+    }
+}
+
+/// The refusal of an edit or a load.
+fn fault_of(fault: EditFault) -> WindowFault
+    ensures { result ≡ fault_of fault }
+{
+    match fault {
+        EditFault::TooMany => WindowFault::TooMany,
+        EditFault::WindowLarge => WindowFault::WindowLarge,
+        EditFault::Mem => WindowFault::Mem,
     }
 }
 
@@ -112,12 +125,141 @@ impl DocumentWindow {
     }
 
     /// Another file is the current one.
-    pub fn select(&mut self, alloc: Global, name: &Name) -> Result<(), WindowFault>
-        ensures { Edits None self.old self.new (File name.now) result }
+    fn select(&mut self, alloc: Global, name: &Name) -> Result<(), AllocError>
+        ensures ok { OnOk result (IsAfter self.old self.new (File name.now)) }
+        ensures err { OnErr result (self.new ≡ self.old) }
     {
-        match self.files.select(alloc, name) {
-            Ok(()) => Ok(()),
-            Err(_) => Err(WindowFault::Mem),
+        self.files.select(alloc, name)
+    }
+
+    /// A file goes.
+    fn remove(&mut self, name: &Name)
+        ensures { IsAfter self.old self.new (Remove name.now) }
+    {
+        let old = self.files.chunk_count();
+        let change = self.files.remove(name);
+        let new = self.files.chunk_count();
+        splice_on(&mut self.shift, self.stood, old, new, change);
+    }
+
+    /// From the record at a place of the current file on, `del` records become others.
+    fn edit(&mut self, alloc: Global, at: u32, del: u32, ins: Records) -> Result<(), WindowFault>
+        requires { asks_too_many self.old.window (Edit at del ins) ≡ false }
+        ensures ok { OnOk result (IsAfter self.old self.new (Edit at del ins)) }
+        ensures err { OnErr result (self.new ≡ self.old) }
+        ensures carried { Carried (is_large (window_after self.old.window (Edit at del ins))) result }
+    {
+        let old = self.files.chunk_count();
+        let change = match self.files.edit(alloc, at, del, ins) {
+            Ok(change) => change,
+            Err(fault) => return Err(fault_of(fault)),
+        };
+        let new = self.files.chunk_count();
+        splice_on(&mut self.shift, self.stood, old, new, change);
+        Ok(())
+    }
+
+    /// The current file becomes these records.
+    fn load(&mut self, alloc: Global, records: Records) -> Result<(), WindowFault>
+        requires { asks_too_many self.old.window (Load records) ≡ false }
+        ensures ok { OnOk result (IsAfter self.old self.new (Load records)) }
+        ensures err { OnErr result (self.new ≡ self.old) }
+        ensures carried { Carried (is_large (window_after self.old.window (Load records))) result }
+    {
+        let old = self.files.chunk_count();
+        let change = match self.files.load(alloc, records) {
+            Ok(change) => change,
+            Err(fault) => return Err(fault_of(fault)),
+        };
+        let new = self.files.chunk_count();
+        splice_on(&mut self.shift, self.stood, old, new, change);
+        Ok(())
+    }
+
+    /// How many bytes of text there are.
+    fn text_len(&self) -> u64
+        ensures size { result ≡ text_size self.now.window.leaves }
+        ensures small { is_large self.now.window ≡ false }
+        ensures kind { self.now.window.kind ≡ Kinds.Document }
+    {
+        self.files.text_len()
+    }
+
+    /// Why an edit is refused for all but the text that there would be.
+    fn edit_refusal<J: Job>(
+        &self,
+        at: u32,
+        del: u32,
+        ins: &Records,
+        job: &J,
+    ) -> Option<WindowFault>
+        ensures { result ≡ early_refusal (J.accepts (J.setting job.now)) self.now.window (Edit at del ins.now) }
+    {
+        if at as usize + del as usize > self.files.record_count() || self.is_one_too_many(ins) {
+            return Some(WindowFault::TooMany);
         }
+        record_fault(job, ins)
+    }
+
+    /// Why a load is refused for all but the text that there would be.
+    fn load_refusal<J: Job>(&self, records: &Records, job: &J) -> Option<WindowFault>
+        ensures { result ≡ early_refusal (J.accepts (J.setting job.now)) self.now.window (Load records.now) }
+    {
+        let _ = &self.places;
+        if self.is_one_too_many(records) {
+            return Some(WindowFault::TooMany);
+        }
+        record_fault(job, records)
+    }
+
+    /// Why a command is refused for all but the text that there would be. It takes no memory.
+    fn early_refusal<J: Job>(&self, c: &Command, job: &J) -> Option<WindowFault>
+        ensures { result ≡ early_refusal (J.accepts (J.setting job.now)) self.now.window c.now }
+    {
+        let _ = &self.places;
+        match c {
+            Command::File { .. } | Command::Remove { .. } => None,
+            Command::Edit { at, del, ins } => self.edit_refusal(*at, *del, ins, job),
+            Command::Load(records) => self.load_refusal(records, job),
+            Command::Bucket(_) | Command::Drop(_) | Command::Late { .. } | Command::Run => {
+                Some(WindowFault::NotHere)
+            }
+        }
+    }
+
+    /// Carries out a command that is not refused early.
+    fn carry_out(&mut self, alloc: Global, c: Command) -> Result<(), WindowFault>
+        requires here { has_command self.old.window.kind c ≡ true }
+        requires few { asks_too_many self.old.window c ≡ false }
+        ensures ok { OnOk result (IsAfter self.old self.new c) }
+        ensures err { OnErr result (self.new ≡ self.old) }
+        ensures carried { Carried (is_large (window_after self.old.window c)) result }
+    {
+        let _ = self.text_len();
+        match c {
+            Command::File { name } => match self.select(alloc, &name) {
+                Ok(()) => Ok(()),
+                Err(_) => Err(WindowFault::Mem),
+            },
+            Command::Remove { name } => {
+                self.remove(&name);
+                let _ = self.text_len();
+                Ok(())
+            }
+            Command::Edit { at, del, ins } => self.edit(alloc, at, del, ins),
+            Command::Load(records) => self.load(alloc, records),
+            _other => unreachable!(),
+        }
+    }
+
+    /// Carries out a command. An edit costs the chunks that it touches, a load the text of the file. A refusal changes
+    /// nothing.
+    pub fn apply<J: Job>(&mut self, alloc: Global, c: Command, job: &J) -> Result<(), WindowFault>
+        ensures { Edits (refusal_of (J.accepts (J.setting job.now)) self.old.window c) self.old self.new c result }
+    {
+        if let Some(fault) = self.early_refusal(&c, job) {
+            return Err(fault);
+        }
+        self.carry_out(alloc, c)
     }
 }

@@ -6,12 +6,15 @@
 mod buckets;
 mod document;
 mod fault;
+mod held;
 mod late_places;
 mod laws;
 mod leaves;
 mod records;
 mod slide;
 mod splice;
+mod window;
 
 pub use fault::WindowFault;
 pub use laws::same_without_files;
+pub use window::Window;

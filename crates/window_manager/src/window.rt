@@ -1,0 +1,111 @@
+// A window of any kind.
+ghost use Rattle.std.specs.Prelude.{◌≡◌, ◌≤◌, ◌<◌, ◌^◌, [], length, slice_index_or};
+ghost use Rattle.window_manager.specs.Windows.{refusal_of};
+ghost use Rattle.window_manager.specs.Views.{Done, no_leaves, shift_of, view_anew};
+
+use crate::WindowFault;
+use crate::buckets::BucketWindow;
+use crate::document::DocumentWindow;
+use crate::held::Held;
+use job_laws::Job;
+use record_text::{Bundle, Command, Kind, Shift};
+use std::alloc::Global;
+use std::marker::Model;
+
+/// The records that count for the next run, as leaves: buckets in a row, in a circle or in a row that only grows, or the
+/// chunks of a document in files.
+#[derive(Drop)]
+pub struct Window {
+    held: Held,
+}
+
+impl Model for Window {
+    ghost use Rattle.window_manager.specs.Views.{FitsKind, WindowView, view_of};
+
+    ghost Value = { WindowView };
+
+    ghost view = { λ w. view_of w.held };
+
+    ghost invariant = { λ w. FitsKind w.held };
+}
+
+impl Window {
+    /// An empty window. Only a circle uses `places`. It takes no memory.
+    pub fn new(alloc: Global, kind: Kind, places: u32) -> Window
+        requires some { 1 ≤ places }
+        requires few { places ≤ 4096 }
+        ensures { result ≡ no_leaves kind places }
+    {
+        let held = match kind {
+            Kind::Document => Held::OfDocument(DocumentWindow::new(alloc, places)),
+            Kind::Buckets | Kind::Circle | Kind::Growing => {
+                Held::OfBuckets(BucketWindow::new(alloc, kind, places))
+            }
+        };
+        Window { held }
+    }
+
+    /// Carries out a command: what it costs is said at each kind. What the kind lacks is refused, then more than there is
+    /// or may be, then the first record that the job does not accept, then more text than a window may have. A refusal
+    /// changes nothing.
+    pub fn apply<J: Job>(&mut self, alloc: Global, c: Command, job: &J) -> Result<(), WindowFault>
+        requires accepted { self.old.slid.accepted < 2 ^ 63 }
+        ensures { Done (refusal_of (J.accepts (J.setting job.now)) self.old.window c) self.old self.new c result }
+    {
+        match &mut self.held {
+            Held::OfBuckets(buckets) => buckets.apply(alloc, c, job),
+            Held::OfDocument(document) => document.apply(alloc, c, job),
+        }
+    }
+
+    /// How many leaves there are.
+    pub fn leaf_count(&self) -> usize
+        ensures { result ≡ length self.now.window.leaves }
+    {
+        match &self.held {
+            Held::OfBuckets(buckets) => buckets.leaf_count(),
+            Held::OfDocument(document) => document.leaf_count(),
+        }
+    }
+
+    /// A leaf, by its place: buckets in window order, or the chunks of all files.
+    pub fn leaf(&self, i: usize) -> &Bundle
+        requires { i < length self.now.window.leaves }
+        ensures { result.now ≡ slice_index_or self.now.window.leaves i [] }
+    {
+        match &self.held {
+            Held::OfBuckets(buckets) => buckets.leaf(i),
+            Held::OfDocument(document) => document.leaf(i),
+        }
+    }
+
+    /// How the leaves changed since the last run. It takes no memory.
+    pub fn shift(&self) -> &Shift
+        ensures { result.now ≡ shift_of self.now }
+    {
+        match &self.held {
+            Held::OfBuckets(buckets) => buckets.shift(),
+            Held::OfDocument(document) => document.shift(),
+        }
+    }
+
+    /// A run was made over the leaves that there are.
+    pub fn run_done(&mut self, alloc: Global)
+        ensures { self.new ≡ view_anew self.old }
+    {
+        match &mut self.held {
+            Held::OfBuckets(buckets) => buckets.run_done(alloc),
+            Held::OfDocument(document) => document.run_done(),
+        }
+    }
+
+    /// The kind of the window.
+    pub fn kind(&self) -> Kind
+        ensures { result ≡ self.now.window.kind }
+    {
+        match &self.held {
+            Held::OfBuckets(buckets) => buckets.kind(),
+            Held::OfDocument(_) => Kind::Document,
+        }
+    }
+}
