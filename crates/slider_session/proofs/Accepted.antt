@@ -1,6 +1,6 @@
 -- A window that takes no refused record holds accepted records.
 use Rattle.std.proofs.Common.{◌≡◌, ℕ, zero, suc, ◌+◌, ◌-◌, Bool, true, false, not, List, [], ◌∷◌, ◌++◌, length, take, drop, refl, sym, subst, All, cond}
-use Rattle.std.specs.Prelude.{Option, if◌then◌else◌, IsTrue}
+use Rattle.std.specs.Prelude.{Option, Result, Ok, Err, if◌then◌else◌, IsTrue}
 use Rattle.std.specs.declared.option.Option.TheVariants.{Some, None}
 use Rattle.std.specs.Ordering.{is_lt, eq_by_cmp}
 use Rattle.std.proofs.lemmas.List.Elements.{All-nil, All-cons, All-head, All-tail, All-append, All-push, All-take, All-drop, All-filter}
@@ -17,8 +17,9 @@ use Rattle.record_text.specs.declared.kind.Kind.TheVariants as Kinds
 use Rattle.record_text.specs.declared.command.Command.{Command}
 use Rattle.record_text.specs.declared.command.Command.TheVariants.{Bucket, Drop, Late, File, Remove, Edit, Load, Run}
 use Rattle.window_manager.specs.Windows.{Leaf, WindowState, empty_window, with_leaf, with_late, with_files, current_records, with_current, window_after, has_command, asks_too_many, brought, refused_from, first_refused, is_large, record_refusal, refusal_of}
+use Rattle.window_manager.specs.Views.{WindowView, Done}
 use Rattle.window_manager.specs.declared.fault.WindowFault.{WindowFault}
-use Rattle.window_manager.specs.declared.fault.WindowFault.TheVariants.{NotHere, TooMany}
+use Rattle.window_manager.specs.declared.fault.WindowFault.TheVariants.{NotHere, TooMany, BadRecord, WindowLarge, Mem}
 use Rattle.slider_session.specs.Accepted.{AllAccepted, HoldsAccepted}
 
 module _ {X : Type 0} (P : X → Type 0) where
@@ -124,6 +125,15 @@ module _ (accepts : List ℕ → Bool) where
   -- a command that is not refused leaves a window of accepted records
   pub keeps_accepted : (w : WindowState) (c : Command) → refusal_of accepts w c ≡ None → HoldsAccepted accepts w → HoldsAccepted accepts (window_after w c)
   keeps_accepted w c taken holds = after_accepted w c (brings_accepted w c taken) holds
+
+  -- whether a command is carried out or refused, the window holds accepted records
+  pub done_accepted : (old new : WindowView) (c : Command) (result : Result (Unit {0}) WindowFault) → Done (refusal_of accepts old.window c) old new c result → HoldsAccepted accepts old.window → HoldsAccepted accepts new.window
+  done_accepted old new c (Ok done) d holds = subst (HoldsAccepted accepts) (sym d.1.window) (keeps_accepted old.window c d.0 holds)
+  done_accepted old new c (Err NotHere) d holds = subst (λ (v : WindowView). HoldsAccepted accepts v.window) (sym d.1) holds
+  done_accepted old new c (Err TooMany) d holds = subst (λ (v : WindowView). HoldsAccepted accepts v.window) (sym d.1) holds
+  done_accepted old new c (Err (BadRecord index)) d holds = subst (λ (v : WindowView). HoldsAccepted accepts v.window) (sym d.1) holds
+  done_accepted old new c (Err WindowLarge) d holds = subst (λ (v : WindowView). HoldsAccepted accepts v.window) (sym d.1) holds
+  done_accepted old new c (Err Mem) d holds = subst (λ (v : WindowView). HoldsAccepted accepts v.window) (sym d.1) holds
 
   -- an empty window holds no record
   pub none_held : (kind : Kind) (places : ℕ) → HoldsAccepted accepts (empty_window kind places)

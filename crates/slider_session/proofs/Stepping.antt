@@ -1,5 +1,5 @@
 -- A step is a step of the script: what it writes, and how the script goes on behind it.
-use Rattle.std.proofs.Common.{◌≡◌, ℕ, ◌+◌, ◌≤◌, List, [], ◌++◌, refl, sym, ap, ◌∙◌, subst, append-nil, append_assoc, inl, inr, arith}
+use Rattle.std.proofs.Common.{◌≡◌, ◌≢◌, ℕ, ◌+◌, ◌≤◌, List, [], ◌++◌, refl, sym, ap, ◌∙◌, subst, append-nil, append_assoc, inl, inr, arith}
 use Rattle.std.specs.Prelude.{Option, Result, Ok, Err}
 use Rattle.std.specs.declared.option.Option.TheVariants.{Some, None}
 use Rattle.definitions.specs.Outside.{Told, IsFront, GainsFront}
@@ -9,6 +9,7 @@ use Rattle.record_text.specs.declared.command.Command.TheVariants.{Bucket, Drop,
 use Rattle.record_text.specs.declared.script_fault.ScriptFault.{ScriptFault}
 use Rattle.record_text.specs.Script.{Ending, Faulty}
 use Rattle.window_manager.specs.Windows.{WindowState, window_after, refusal_of}
+use Rattle.window_manager.specs.Slides.{Slid, slid_after}
 use Rattle.window_manager.specs.declared.fault.WindowFault.{WindowFault}
 use Rattle.slider_session.specs.Output.{Meaning, Outcome, after_bytes, ended_by, unless_refused, on_command}
 use Rattle.slider_session.specs.Calls.{Held, state_of, accepted_of, Changes, Answers, Steps, next_piece}
@@ -52,6 +53,17 @@ module _ {V : Type 0} (j : Meaning V) (old new : Held) (c : Command) (line : ℕ
 unwritten : (before now : Option (List ℕ)) → now ≡ before → Told before now (λ bytes more. more ≡ bytes ++ [])
 unwritten before now same = subst (λ (o : Option (List ℕ)). Told before o (λ bytes more. more ≡ bytes ++ [])) (sym same) (told_same before (λ bytes more. more ≡ bytes ++ []) (λ x. sym (append-nil x)))
 
+-- a command accepts at most one bucket more
+one_more : (w : WindowState) (c : Command) (s : Slid) → (slid_after w c s).accepted ≤ s.accepted + 1
+one_more w (Bucket records) s = omega arith
+one_more w (Drop n) s = omega arith
+one_more w (Late place more) s = omega arith
+one_more w (File name) s = omega arith
+one_more w (Remove name) s = omega arith
+one_more w (Edit at del ins) s = omega arith
+one_more w (Load records) s = omega arith
+one_more w Run s = omega arith
+
 module _ {V : Type 0} (j : Meaning V) (old new : Held) (line : ℕ) (before now : Option (List ℕ)) where
   -- the window's command, where `on_command` is the window's
   module _ (c : Command) (windows : (go : Going) → on_command j (old.runs + 1) (state_of old) c line go ≡ unless_refused (refusal_of j.accepts (state_of old) c) line (go (old.runs + 1) (window_after (state_of old) c))) where
@@ -63,7 +75,7 @@ module _ {V : Type 0} (j : Meaning V) (old new : Held) (line : ℕ) (before now 
           ∙ ap (λ o. unless_refused o line (go (old.runs + 1) (window_after (state_of old) c))) a.0
           ∙ (λ i. go (sym (ap (λ (h : Held). h.runs) a.2) i + 1) (sym a.1.window i));
       runs = let same = ap (λ (h : Held). h.runs) a.2 in omega (arith, same);
-      accepted = a.1.accepted;
+      accepted = subst (λ (s : Slid). s.accepted ≤ accepted_of old + 1) (sym a.1.slid) (one_more (state_of old) c old.window.slid);
       setting = ap (λ (h : Held). h.setting) a.2;
     }
     change_comes (Err (Halts.Script fault)) a same = record {
@@ -117,6 +129,17 @@ module _ {V : Type 0} (j : Meaning V) (old new : Held) (line : ℕ) (before now 
     front = λ go. ((on_command j (old.runs + 1) (state_of old) Run line go).0, refl);
   }
   answer_comes (Err Halts.Mem) (inr a) = cut_in_piece a.1
+
+-- a command other than a run is the window's
+pub not_run : {V : Type 0} (j : Meaning V) (i : ℕ) (w : WindowState) (c : Command) (line : ℕ) (go : Going) → (c ≢ Run) → on_command j i w c line go ≡ unless_refused (refusal_of j.accepts w c) line (go i (window_after w c))
+not_run j i w (Bucket records) line go other = refl
+not_run j i w (Drop n) line go other = refl
+not_run j i w (Late place more) line go other = refl
+not_run j i w (File name) line go other = refl
+not_run j i w (Remove name) line go other = refl
+not_run j i w (Edit at del ins) line go other = refl
+not_run j i w (Load records) line go other = refl
+not_run j i w Run line go other = absurd (other refl)
 
 -- what each step comes to
 pub step_comes : {V : Type 0} (j : Meaning V) (old new : Held) (c : Command) (line : ℕ) (before now : Option (List ℕ)) (result : Result (Unit {0}) Halt) → Steps j old new c line before now result → ComesTo j old new c line before now result

@@ -6,7 +6,7 @@ use Rattle.record_text.specs.declared.command.Command.{Command}
 use Rattle.record_text.specs.declared.command.Command.TheVariants.{Run}
 use Rattle.record_text.specs.Script.{Faulty}
 use Rattle.window_manager.specs.Windows.{WindowState, refusal_of}
-use Rattle.window_manager.specs.Whole.{WindowView, IsNext, view_anew}
+use Rattle.window_manager.specs.Views.{WindowView, IsDone, view_anew}
 use Rattle.window_manager.specs.declared.fault.WindowFault.{WindowFault}
 use Rattle.slider_session.specs.declared.settings.Settings.{Settings}
 use Rattle.slider_session.specs.declared.halt.Halt.{Halt}
@@ -26,12 +26,12 @@ state_of h = h.window.window
 
 -- how many buckets it accepted
 abbrev pub accepted_of : Held → ℕ
-accepted_of h = h.window.accepted
+accepted_of h = h.window.slid.accepted
 
 -- a command of the window was carried out, or refused on its line; nothing else was touched, and want of memory comes
 -- only where nothing refuses it
 abbrev pub Changes : (List ℕ → Bool) → Held → Held → Command → ℕ → Result (Unit {0}) Halt → Type 0
-Changes accepts old new c line (Ok done) = (refusal_of accepts (state_of old) c ≡ None) × IsNext old.window new.window c × (new ≡ record old { window = new.window })
+Changes accepts old new c line (Ok done) = (refusal_of accepts (state_of old) c ≡ None) × IsDone old.window new.window c × (new ≡ record old { window = new.window })
 Changes accepts old new c line (Err (Halts.Script fault)) = (refused : WindowFault) × (refusal_of accepts (state_of old) c ≡ Some refused) × (ended_by line refused ≡ Faulty fault.line fault.why) × (new ≡ old)
 Changes accepts old new c line (Err Halts.Read) = ⊥
 Changes accepts old new c line (Err Halts.Write) = ⊥

@@ -1,9 +1,9 @@
 // What a run writes: each leaf of the window is mapped, and their sheets are merged.
-ghost use Rattle.std.specs.Prelude.{◌≡◌, IfOk};
+ghost use Rattle.std.specs.Prelude.{◌≡◌, ◌++◌, length, IfOk};
 ghost use Rattle.definitions.specs.Tables.{table_of, merged};
-ghost use Rattle.definitions.specs.Answer.{pairs_of};
+ghost use Rattle.definitions.specs.Answer.{pairs_of, lines_of};
 ghost use Rattle.window_manager.specs.Windows.{present};
-ghost use Rattle.slider_session.specs.Output.{meaning, piece};
+ghost use Rattle.slider_session.specs.Output.{meaning, header, piece};
 ghost use Rattle.slider_session.specs.Accepted.{AllAccepted, HoldsAccepted};
 ghost use Rattle.slider_session.specs.Serving.{FitsMeters};
 
@@ -27,6 +27,19 @@ pub fn piece_of<J: Job>(
     ensures meters { FitsMeters meters.new.lanes.items meters.new.parts.items }
 {
     let sheet = sheet_of_leaves(alloc, job, window, meters)?;
+    bytes_of(alloc, job, &sheet, run)
+}
+
+/// What a run writes over the sheet of a window.
+fn bytes_of<J: Job>(
+    alloc: Global,
+    job: &J,
+    sheet: &Sheet<J>,
+    run: u64,
+) -> Result<Vec<u8>, AllocError>
+    requires { sheet.now.setting ≡ J.setting job.now }
+    ensures { IfOk result (λ bytes. bytes.items ≡ header run (length sheet.now.entries) ++ lines_of (J.text (J.setting job.now)) sheet.now.entries) }
+{
     let keys = sheet.entries().len();
     let head = format!(in alloc; "# run {run} keys {keys}\n")?;
     let mut bytes = Vec::from_slice(alloc, head.as_bytes())?;

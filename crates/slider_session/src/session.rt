@@ -2,7 +2,7 @@
 ghost use Rattle.std.specs.Prelude.{◌≡◌, ◌<◌, ◌≤◌, ◌^◌, ℕ, List, IfOk, IsErrOf};
 ghost use Rattle.definitions.specs.Outside.{Rose};
 ghost use Rattle.record_text.specs.declared.command.Command.TheVariants.{Run};
-ghost use Rattle.window_manager.specs.Whole.{new_window};
+ghost use Rattle.window_manager.specs.Views.{no_leaves};
 ghost use Rattle.slider_session.specs.Output.{meaning};
 ghost use Rattle.slider_session.specs.Settings.{AreWithin};
 ghost use Rattle.slider_session.specs.Calls.{Held, accepted_of, Changes, Answers, Steps};
@@ -48,9 +48,9 @@ impl<J: Job> Session<J> {
     ) -> Result<Session<J>, AllocError>
         requires settings { AreWithin settings }
         requires parts { settings.parts ≡ 1 }
-        ensures { IfOk result (λ s. s ≡ record { setting = J.setting job; settings = settings; runs = 0; window = new_window kind settings.places }) }
+        ensures { IfOk result (λ s. s ≡ record { setting = J.setting job; settings = settings; runs = 0; window = no_leaves kind settings.places }) }
     {
-        let window = Window::new(alloc, kind, settings.places)?;
+        let window = Window::new(alloc, kind, settings.places);
         Ok(Session {
             job,
             settings,
@@ -89,7 +89,6 @@ impl<J: Job> Session<J> {
 
     /// Has the window carry out a command.
     fn change(&mut self, alloc: Global, c: Command, line: u64) -> Result<(), Halt>
-        requires window { c ≡ Run → ⊥ }
         requires line { line ≤ 2 ^ 62 }
         requires accepted { accepted_of self.old < 2 ^ 63 }
         ensures changes { Changes (J.accepts self.old.setting) self.old self.new c line result }

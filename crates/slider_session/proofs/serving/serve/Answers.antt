@@ -8,7 +8,7 @@ use Rattle.slider_session.specs.Calls.{Held, state_of, accepted_of, Steps}
 use Rattle.slider_session.specs.Serving.{Serves}
 use Rattle.slider_session.specs.declared.serving.TheConstants.{MOST_SCRIPT}
 use Rattle.slider_session.proofs.Stepping.{step_comes}
-use Rattle.slider_session.proofs.Walks.{begins, goes_on, at_end, at_stop, at_halt}
+use Rattle.slider_session.proofs.Walks.{begins, nothing_yet, goes_on, at_end, at_stop, at_halt}
 use Rattle.slider_session.proofs.serving.serve.Goals as goal
 
 pub commands-init : goal.commands-init
@@ -117,3 +117,8 @@ returns-in-Err-step-clause-serves g c =
     let at_job = subst (λ (k : ℕ). Serves (meaning (g.J.Job.accepts k) (g.J.Job.emits k) (g.J.Job.joined k) (g.J.Job.text k)) w MOST_SCRIPT first rest before wrote (Err halt)) (ap (λ (h : Held). h.setting) c.in-Ok.ensures) halted in
     let served = subst (λ (o : Option (List ℕ)). Serves (meaning (g.J.Job.accepts (g.J.Job.setting c.args.job)) (g.J.Job.emits (g.J.Job.setting c.args.job)) (g.J.Job.joined (g.J.Job.setting c.args.job)) (g.J.Job.text (g.J.Job.setting c.args.job))) w MOST_SCRIPT o rest before wrote (Err halt)) (ap g.S.Source.left c.new-reader.ensures.now) at_job in
     search (served, rules)
+
+pub returns-in-Err-clause-serves : goal.returns-in-Err-clause-serves
+returns-in-Err-clause-serves g c =
+    let s = g.J.Job.setting c.args.job in
+    nothing_yet (meaning (g.J.Job.accepts s) (g.J.Job.emits s) (g.J.Job.joined s) (g.J.Job.text s)) (empty_window c.args.kind c.args.settings.places) MOST_SCRIPT (g.S.Source.left c.args.source.now) (g.K.Sink.held c.args.out.now)

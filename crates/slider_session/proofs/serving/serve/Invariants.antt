@@ -22,7 +22,7 @@ invariant-commands g l =
       meters : FitsMeters l.meters.lanes.items l.meters.parts.items;
       source_later : g.S.Source.faults (source_of l.initial.reader).now ≤ g.S.Source.faults (source_of l.reader).now;
       later : g.K.Sink.faults l.initial.out ≤ g.K.Sink.faults l.out;
-      stands : Stands (meaning (g.J.Job.accepts s) (g.J.Job.emits s) (g.J.Job.joined s) (g.J.Job.text s)) (empty_window l.kind l.settings.places) MOST_SCRIPT (reading_of l.initial.reader) l.session (reading_of l.reader) (g.S.Source.left (source_of l.initial.reader).now) (g.S.Source.left (source_of l.reader).now) (g.K.Sink.held l.initial.out) (g.K.Sink.held l.out);
+      stands : Stands (meaning (g.J.Job.accepts s) (g.J.Job.emits s) (g.J.Job.joined s) (g.J.Job.text s)) (empty_window l.fn.kind l.fn.settings.places) MOST_SCRIPT (reading_of l.initial.reader) l.session (reading_of l.reader) (g.S.Source.left (source_of l.initial.reader).now) (g.S.Source.left (source_of l.reader).now) (g.K.Sink.held l.initial.out) (g.K.Sink.held l.out);
     }
 
 abbrev pub decreases-commands : goal.decreases-commands
