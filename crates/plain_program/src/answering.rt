@@ -24,7 +24,7 @@ pub(crate) fn plain_piece<J: Job>(
     requires { HoldsAccepted (J.accepts (J.setting job.now)) window.now }
     ensures { OnOk result (out.new.items ≡ out.old.items ++ piece (meaning (J.accepts (J.setting job.now)) (J.emits (J.setting job.now)) (J.joined (J.setting job.now)) (J.text (J.setting job.now))) run window.now) }
 {
-    let pairs = plain_pairs(alloc, job, &window.leaves, m)?;
+    let pairs = plain_pairs(alloc, job, window.leaves.as_slice(), m)?;
     let keys = plain_keys(alloc, pairs.pairs())?;
     let count = keys.len();
     let header = format!(in alloc; "# run {run} keys {count}\n")?;

@@ -1,8 +1,8 @@
 // What a command makes of a window.
-ghost use Rattle.std.specs.Prelude.{◌≡◌, ◌≤◌, ◌+◌, false, drop, length, IfOk, OnOk};
+ghost use Rattle.std.specs.Prelude.{◌≡◌, ◌≤◌, ◌<◌, ◌+◌, false, drop, length, IfOk, OnOk};
 ghost use Rattle.chunk_store.specs.Documents.{spliced};
 ghost use Rattle.chunk_store.specs.Files.{with_file};
-ghost use Rattle.window_manager.specs.Windows.{asks_too_many, current_records, with_current, with_files, with_leaf, window_after};
+ghost use Rattle.window_manager.specs.Windows.{asks_too_many, current_records, with_current, with_files, with_late, with_leaf, window_after};
 
 use crate::files::{chunks_of_files, file_records, files_with};
 use crate::records::{append_leaves, append_records, cut, spliced_records};
@@ -19,7 +19,7 @@ impl PlainWindow {
         match c {
             Command::Bucket(records) => self.add_leaf(alloc, records),
             Command::Drop(n) => self.keep_from(alloc, *n as usize),
-            Command::Late { place, more } => append_records(&mut self.leaves[*place as usize], more),
+            Command::Late { place, more } => self.add_late(alloc, *place as usize, more),
             Command::File { name } => self.select(alloc, name),
             Command::Remove { name } => self.put_file(alloc, name, Vec::new(alloc)),
             Command::Edit { at, del, ins } => self.edit(alloc, *at, *del, ins),
@@ -58,6 +58,17 @@ impl PlainWindow {
         let mut kept = Vec::new(alloc);
         append_leaves(alloc, &mut kept, &self.leaves[gone..])?;
         self.leaves = kept;
+        Ok(())
+    }
+
+    /// Records are added at the end of a leaf.
+    fn add_late(&mut self, alloc: Global, place: usize, more: &Records) -> Result<(), AllocError>
+        requires { place < length self.old.leaves }
+        ensures { OnOk result (self.new ≡ record self.old { leaves = with_late place more.now self.old.leaves }) }
+    {
+        let mut leaf = self.leaves[place].copy(alloc)?;
+        append_records(&mut leaf, more)?;
+        self.leaves[place] = leaf;
         Ok(())
     }
 

@@ -124,13 +124,12 @@ fn is_large(leaves: &[Records]) -> bool
     ensures { result ≡ nat_lt 268435456 (length (text_of (joined leaves.now))) }
 {
     let mut size = 0;
-    let mut rest = leaves;
-    'leaves: while let [leaf, more @ ..] = rest {
-        if leaf.text_len() > MOST_TEXT - size {
+    'leaves: for i in 0..leaves.len() {
+        let more = leaves[i].text_len();
+        if more > MOST_TEXT - size {
             return true;
         }
-        size += leaf.text_len();
-        rest = more;
+        size += more;
     }
     false
 }
