@@ -1,6 +1,6 @@
 -- Windows of buckets before and after a command.
-use Rattle.std.proofs.Common.{◌≡◌, ◌≢◌, ℕ, zero, suc, ◌+◌, ◌-◌, ◌<◌, ◌≤◌, Bool, true, false, List, [], ◌∷◌, ◌++◌, length, take, drop, get_or, refl, sym, ap, ◌∙◌, subst, arith, length-drop}
-use Rattle.std.specs.Prelude.{not, ◌&&◌, nat_le, nat_lt, if◌then◌else◌, Option}
+use Rattle.std.proofs.Common.{◌≡◌, ◌≢◌, ℕ, ◌+◌, ◌-◌, ◌<◌, ◌≤◌, Bool, true, false, List, [], ◌∷◌, ◌++◌, length, drop, get_or, refl, sym, ap, ◌∙◌, subst, arith, length-drop}
+use Rattle.std.specs.Prelude.{not, ◌&&◌, nat_le, nat_lt, if◌then◌else◌}
 use Rattle.std.specs.declared.option.Option.TheVariants.{Some, None}
 use Rattle.std.proofs.lemmas.Bool.Decides.{nat_tests}
 use Rattle.definitions.specs.Records.{text_of}
@@ -8,9 +8,8 @@ use Rattle.record_text.specs.declared.kind.Kind.{Kind}
 use Rattle.record_text.specs.declared.kind.Kind.TheVariants as Kinds
 use Rattle.record_text.specs.declared.command.Command.{Command}
 use Rattle.record_text.specs.declared.command.Command.TheVariants.{Bucket, Drop, Late, File, Remove, Edit, Load, Run}
-use Rattle.record_text.specs.declared.shift.Shift.{Shift}
 use Rattle.window_manager.specs.Windows.{Leaf, WindowState, has_command, is_circle, last_of, with_leaf, with_late, asks_too_many, is_large, window_after, refusal_of, record_refusal, first_refused, brought}
-use Rattle.window_manager.specs.Slides.{FitsCount, Slid, slid_after, late_after, with_place}
+use Rattle.window_manager.specs.Slides.{Slid, slid_after, late_after, with_place}
 use Rattle.window_manager.specs.Buckets.{BucketView, IsOfBuckets, buckets_after, leaving, text_size}
 use Rattle.window_manager.specs.declared.fault.WindowFault.TheVariants.{NotHere, TooMany}
 use Rattle.window_manager.proofs.TextLaws.{size_append, size_cut, size_one, size_late, size_part, count_late, count_size, late_nothing}
@@ -100,7 +99,7 @@ module _ (w : WindowState) (is : IsOfBuckets w) (leaf : Leaf) where
   pub bucket_refused : (accepts : List ℕ → Bool) (kept : ℕ) → kept ≡ text_size (drop (leaving w.kind w.places (length w.leaves)) w.leaves) → asks_too_many w (Bucket leaf) ≡ false → record_refusal (first_refused accepts leaf) (nat_lt 268435456 (kept + length (text_of leaf))) ≡ refusal_of accepts w (Bucket leaf)
   bucket_refused accepts kept same few =
       records_refused accepts w (Bucket leaf) (nat_lt 268435456 (kept + length (text_of leaf))) (has_bucket w.kind leaf is.buckets) few
-          (ap (λ (n : ℕ). nat_lt 268435456 n) (size_with ∙ ap (λ (n : ℕ). n + length (text_of leaf)) (sym same)))
+      (ap (λ (n : ℕ). nat_lt 268435456 n) (size_with ∙ ap (λ (n : ℕ). n + length (text_of leaf)) (sym same)))
 
   pub count_with : length (drop (leaving w.kind w.places (length w.leaves)) w.leaves ++ leaf ∷ []) ≡ length w.leaves + 1 - leaving w.kind w.places (length w.leaves)
   count_with = omega (arith, one_longer (drop (leaving w.kind w.places (length w.leaves)) w.leaves) leaf, length-drop (leaving w.kind w.places (length w.leaves)) w.leaves, leaves_within w.kind w.places (length w.leaves) is.some)
@@ -143,7 +142,7 @@ module _ (w : WindowState) (place : ℕ) (more : List (List ℕ)) where
   pub late_refused : (accepts : List ℕ → Bool) (kept : ℕ) → has_command w.kind (Late place more) ≡ true → place < length w.leaves → kept ≡ text_size w.leaves → record_refusal (first_refused accepts more) (nat_lt 268435456 (kept + length (text_of more))) ≡ refusal_of accepts w (Late place more)
   late_refused accepts kept has within same =
       records_refused accepts w (Late place more) (nat_lt 268435456 (kept + length (text_of more))) has (nat_not_le (length w.leaves) place within)
-          (ap (λ (n : ℕ). nat_lt 268435456 n) (size_late place more w.leaves within ∙ ap (λ (n : ℕ). n + length (text_of more)) (sym same)))
+      (ap (λ (n : ℕ). nat_lt 268435456 n) (size_late place more w.leaves within ∙ ap (λ (n : ℕ). n + length (text_of more)) (sym same)))
 
   pub late_many : (accepts : List ℕ → Bool) → has_command w.kind (Late place more) ≡ true → length w.leaves ≤ place → Some TooMany ≡ refusal_of accepts w (Late place more)
   late_many accepts has beyond = too_many accepts w (Late place more) has (nat_is_le (length w.leaves) place beyond)

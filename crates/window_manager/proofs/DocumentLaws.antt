@@ -1,12 +1,10 @@
 -- Documents before and after a command.
-use Rattle.std.proofs.Common.{◌≡◌, ◌≢◌, ℕ, ◌+◌, ◌-◌, ◌<◌, ◌≤◌, ◌⊎◌, inl, inr, Bool, true, false, List, [], ◌∷◌, ◌++◌, length, take, drop, refl, sym, ap, ◌∙◌, subst, arith, length-drop}
+use Rattle.std.proofs.Common.{◌≡◌, ◌≢◌, ℕ, ◌+◌, Bool, true, false, List, length, refl, sym, ap, subst, arith, length-drop}
 use Rattle.std.specs.Prelude.{Option, Result, Ok, Err, OnOk, not, if◌then◌else◌}
 use Rattle.std.specs.declared.option.Option.TheVariants.{Some, None}
-use Rattle.std.proofs.lemmas.Bool.Decides.{nat_tests}
-use Rattle.marker_chunker.specs.Cuts.{chunks_of, joined}
 use Rattle.chunk_store.specs.declared.change.Change.{Change}
-use Rattle.chunk_store.specs.Documents.{IsSplice, text_size}
-use Rattle.chunk_store.specs.Files.{File as NamedFile, IsEditOf, IsLoadOf, IsOneTooMany, all_chunks, edited, file_at, with_file}
+use Rattle.chunk_store.specs.Documents.{IsSplice}
+use Rattle.chunk_store.specs.Files.{File as NamedFile, all_chunks}
 use Rattle.record_text.specs.declared.kind.Kind.TheVariants as Kinds
 use Rattle.record_text.specs.declared.command.Command.{Command}
 use Rattle.record_text.specs.declared.command.Command.TheVariants.{Bucket, Drop, Late, File, Remove, Edit, Load, Run}
@@ -32,6 +30,7 @@ module _ (places stood : ℕ) (shift : Shift) (old new : List NamedFile × List 
     stood = refl;
     change = record { first = 0; gone = 0; fresh = 0 };
     changes = (refl, refl);
+    spliced = record { within = omega arith; fits = omega arith; before = refl; behind = refl };
     splice = splice_still stood (length (all_chunks old.0)) (length (all_chunks old.0)) shift;
   }
 
@@ -46,15 +45,15 @@ pub on_ok : {T E P Q : Type 0} (r : Result T E) → (P → Q) → OnOk r P → O
 on_ok (Ok x) f p = f p
 on_ok (Err e) f p = p
 
-abbrev IsNoneOf : Option WindowFault → Type 0
+abbrev pub IsNoneOf : Option WindowFault → Type 0
 IsNoneOf None = Unit {0}
 IsNoneOf (Some f) = ⊥
 
-not_none : (f : WindowFault) → None ≡ Some f → ⊥
+pub not_none : (f : WindowFault) → None ≡ Some f → ⊥
 not_none f e = subst IsNoneOf e tt
 
 -- the refusals of a command by their tests: it is there, it asks for too many, a record, the text
-abbrev by_tests : Bool → Bool → Option ℕ → Bool → Option WindowFault
+abbrev pub by_tests : Bool → Bool → Option ℕ → Bool → Option WindowFault
 by_tests h m r l = if not h then Some NotHere else if m then Some TooMany else record_refusal r l
 
 early_some : (h m : Bool) (r : Option ℕ) (l : Bool) (f : WindowFault) → by_tests h m r false ≡ Some f → by_tests h m r l ≡ Some f
@@ -77,7 +76,7 @@ module _ (accepts : List ℕ → Bool) (w : WindowState) (c : Command) where
   pub allowed : early_refusal accepts w c ≡ None → (has_command w.kind c ≡ true) × (asks_too_many w c ≡ false) × (refusal_of accepts w c ≡ (if is_large (window_after w c) then Some WindowLarge else None))
   allowed e = early_none (has_command w.kind c) (asks_too_many w c) (first_refused accepts (brought c)) (is_large (window_after w c)) e
 
-abbrev IsTrueTest : Bool → Type 0
+abbrev pub IsTrueTest : Bool → Type 0
 IsTrueTest true = Unit {0}
 IsTrueTest false = ⊥
 

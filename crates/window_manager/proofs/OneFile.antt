@@ -1,7 +1,7 @@
 -- A window whose commands name no file has one file at most, the one of the empty name.
-use Rattle.std.proofs.Common.{◌≡◌, ℕ, ◌+◌, Bool, true, false, List, [], ◌∷◌, ◌++◌, length, refl, sym, ap, ◌∙◌, arith, append-nil}
-use Rattle.std.specs.Prelude.{if◌then◌else◌, All, Result, Ok, Err, Option, nat_le, nat_lt, ◌==◌, ◌&&◌, ◌||◌, take, drop}
-use Rattle.std.specs.declared.option.Option.TheVariants.{Some, None}
+use Rattle.std.proofs.Common.{◌≡◌, ℕ, ◌+◌, Bool, true, false, List, [], ◌∷◌, length, refl, sym, ap, ◌∙◌, arith, append-nil}
+use Rattle.std.specs.Prelude.{if◌then◌else◌, All, Option, nat_le, nat_lt, ◌==◌, ◌&&◌, ◌||◌, drop}
+use Rattle.std.specs.declared.option.Option.TheVariants.{Some}
 use Rattle.std.proofs.lemmas.List.Elements.{All-tail}
 use Rattle.definitions.specs.Records.{text_of}
 use Rattle.marker_chunker.specs.Cuts.{chunks_of, joined}
@@ -12,9 +12,8 @@ use Rattle.record_text.specs.declared.kind.Kind.{Kind}
 use Rattle.record_text.specs.declared.kind.Kind.TheVariants as Kinds
 use Rattle.record_text.specs.declared.command.Command.{Command}
 use Rattle.record_text.specs.declared.command.Command.TheVariants.{Bucket, Drop, Late, File, Remove, Edit, Load, Run}
-use Rattle.window_manager.specs.Windows.{Leaf, WindowState, empty_window, with_leaf, with_late, window_after, current_records, with_current, refusal_of, asks_too_many, is_one_too_many, is_large, record_refusal, first_refused}
+use Rattle.window_manager.specs.Windows.{Leaf, WindowState, with_leaf, with_late, window_after, current_records, with_current, refusal_of, asks_too_many, is_one_too_many, is_large, record_refusal, first_refused}
 use Rattle.window_manager.specs.OlderRule.{OlderState, older_after, older_refusal, unless_refused, leaves_after, older_leaves_after, NamesNoFile, SameWithoutFiles}
-use Rattle.window_manager.specs.declared.fault.WindowFault.{WindowFault}
 use Rattle.window_manager.specs.declared.fault.WindowFault.TheVariants.{TooMany}
 
 -- a window that is no document
@@ -86,10 +85,10 @@ module _ (accepts : List ℕ → Bool) (places : ℕ) (rs : List (List ℕ)) whe
   edit_refusal : (at del : ℕ) (ins : List (List ℕ)) → refusal_of accepts (document places rs) (Edit at del ins) ≡ older_refusal accepts (older Kinds.Document places (chunks_of rs)) (Edit at del ins)
   edit_refusal at del ins =
       let many : asks_too_many (document places rs) (Edit at del ins) ≡ nat_lt (length (joined (chunks_of rs))) (at + del) =
-          or_false (nat_lt (length (current_records (document places rs))) (at + del)) (is_one_too_many (document places rs) ins) (few places rs ins)
-          ∙ ap (λ (l : List (List ℕ)). nat_lt (length l) (at + del)) (one_records rs ∙ sym (joined_chunks rs)) in
+      or_false (nat_lt (length (current_records (document places rs))) (at + del)) (is_one_too_many (document places rs) ins) (few places rs ins)
+      ∙ ap (λ (l : List (List ℕ)). nat_lt (length l) (at + del)) (one_records rs ∙ sym (joined_chunks rs)) in
       let size : is_large (window_after (document places rs) (Edit at del ins)) ≡ large (chunks_of (spliced at del ins (joined (chunks_of rs)))) =
-          ap is_large (edit_after at del ins) ∙ ap (λ (l : List (List ℕ)). large (chunks_of (spliced at del ins l))) (sym (joined_chunks rs)) in
+      ap is_large (edit_after at del ins) ∙ ap (λ (l : List (List ℕ)). large (chunks_of (spliced at del ins l))) (sym (joined_chunks rs)) in
       same_refusal (asks_too_many (document places rs) (Edit at del ins)) (nat_lt (length (joined (chunks_of rs))) (at + del)) (first_refused accepts ins) (is_large (window_after (document places rs) (Edit at del ins))) (large (chunks_of (spliced at del ins (joined (chunks_of rs))))) many size
 
   load_refusal : (more : List (List ℕ)) → refusal_of accepts (document places rs) (Load more) ≡ older_refusal accepts (older Kinds.Document places (chunks_of rs)) (Load more)

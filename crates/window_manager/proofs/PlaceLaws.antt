@@ -1,5 +1,5 @@
 -- Rising places, gone over one by one.
-use Rattle.std.proofs.Common.{◌≡◌, ℕ, zero, suc, subst, ◌+◌, ◌-◌, ◌<◌, ◌≤◌, Bool, true, false, List, [], ◌∷◌, ◌++◌, length, take, get_or, refl, sym, ap, ◌∙◌, arith, append-nil, append_assoc}
+use Rattle.std.proofs.Common.{◌≡◌, ℕ, zero, suc, subst, ◌+◌, ◌-◌, ◌<◌, ◌≤◌, Bool, true, false, List, [], ◌∷◌, ◌++◌, length, take, get_or, refl, sym, ap, ◌∙◌, arith, append-nil}
 use Rattle.std.specs.Prelude.{cond, All, nat_le, nat_lt, map}
 use Rattle.std.specs.List.{filter}
 use Rattle.std.specs.List.Sorted.{IsStrictlyIncreasing}
@@ -66,7 +66,7 @@ rising_before ps rising (suc i) lt =
     let same : i + 1 ≡ suc i = omega arith in
     let up : get_or ps i 0 < get_or ps (suc i) 0 = subst (λ (n : ℕ). get_or ps i 0 < get_or ps n 0) same (rising i (omega (arith, lt))) in
     subst (λ (l : List ℕ). All (λ x. x < get_or ps (suc i) 0) l) (sym (take-suc ps i 0 (omega (arith, lt))))
-        (all_push (get_or ps (suc i) 0) (get_or ps i 0) (take i ps) up (all_less (get_or ps i 0) (get_or ps (suc i) 0) (take i ps) (omega (arith, up)) (rising_before ps rising i (omega (arith, lt)))))
+    (all_push (get_or ps (suc i) 0) (get_or ps i 0) (take i ps) up (all_less (get_or ps i 0) (get_or ps (suc i) 0) (take i ps) (omega (arith, up)) (rising_before ps rising i (omega (arith, lt)))))
 
 -- below a bound is what was looked at before, and the next place
 all_left : (q : ℕ) (xs ys : List ℕ) → All (λ x. x < q) (xs ++ ys) → All (λ x. x < q) xs
@@ -105,4 +105,4 @@ filter_below test m (p ∷ ps) all = filter_one (test p) p m (filter test ps) (a
 pub with_place_below : (m place : ℕ) (ps : List ℕ) → place < m → All (λ p. p < m) ps → All (λ p. p < m) (with_place place ps)
 with_place_below m place ps lt all =
     All-append (λ p. p < m) (filter (λ p. nat_lt p place) ps) (place ∷ filter (λ p. nat_lt place p) ps) (filter_below (λ p. nat_lt p place) m ps all)
-        (All-cons (λ p. p < m) place (filter (λ p. nat_lt place p) ps) lt (filter_below (λ p. nat_lt place p) m ps all))
+    (All-cons (λ p. p < m) place (filter (λ p. nat_lt place p) ps) lt (filter_below (λ p. nat_lt place p) m ps all))

@@ -1,12 +1,12 @@
 -- A window of buckets, and what its calls promise.
-use Rattle.std.specs.Prelude.{◌≡◌, ◌≢◌, ℕ, ◌≤◌, Bool, true, false, ◌&&◌, nat_le, if◌then◌else◌, List, length, Option, Result, Ok, Err}
+use Rattle.std.specs.Prelude.{◌≡◌, ◌≢◌, ℕ, ◌≤◌, Bool, true, false, ◌&&◌, nat_le, if◌then◌else◌, List, length, Result, Ok, Err}
 use Rattle.std.specs.declared.option.Option.TheVariants.{Some, None}
 pub use Rattle.chunk_store.specs.Documents.{text_size}
 use Rattle.record_text.specs.declared.kind.Kind.{Kind}
 use Rattle.record_text.specs.declared.kind.Kind.TheVariants as Kinds
 use Rattle.record_text.specs.declared.command.Command.{Command}
 use Rattle.record_text.specs.declared.shift.Shift.{Shift}
-use Rattle.window_manager.specs.Windows.{Leaf, WindowState, empty_window, window_after, has_command, asks_too_many, is_large, is_circle, refusal_of}
+use Rattle.window_manager.specs.Windows.{WindowState, empty_window, window_after, has_command, asks_too_many, is_large, is_circle, refusal_of}
 use Rattle.window_manager.specs.Slides.{Slid, not_slid, slid_after, slid_anew, FitsCount}
 use Rattle.window_manager.specs.declared.fault.WindowFault.{WindowFault}
 use Rattle.window_manager.specs.declared.fault.WindowFault.TheVariants.{Mem}

@@ -1,8 +1,8 @@
 -- How the buckets of a window changed since its last run.
-use Rattle.std.specs.Prelude.{◌≢◌, ℕ, ◌+◌, ◌-◌, ◌<◌, ◌≤◌, nat_le, nat_lt, min, if◌then◌else◌, List, [], ◌∷◌, ◌++◌, length, map, drop, All}
+use Rattle.std.specs.Prelude.{◌≡◌, ℕ, ◌+◌, ◌-◌, ◌<◌, ◌≤◌, nat_le, nat_lt, min, if◌then◌else◌, List, [], ◌∷◌, ◌++◌, length, map, All}
 use Rattle.std.specs.List.{filter}
 use Rattle.record_text.specs.declared.command.Command.{Command}
-use Rattle.record_text.specs.declared.command.Command.TheVariants.{Bucket, Drop, Late, File, Remove, Edit, Load, Run}
+use Rattle.record_text.specs.declared.command.Command.TheVariants.{Bucket, Drop, Late}
 use Rattle.record_text.specs.declared.shift.Shift.{Shift}
 use Rattle.record_text.specs.declared.shift.Shift.TheVariants.{Slide, Splice}
 use Rattle.window_manager.specs.Windows.{WindowState, window_after}
@@ -59,3 +59,9 @@ slid_by (Splice first gone fresh) count = not_slid
 abbrev pub FitsCount : Shift → ℕ → Type 0
 FitsCount (Slide first gone places fresh) count = (fresh ≤ count) × (gone + (count - fresh) ≤ 65536) × All (λ p. p < count - fresh) places
 FitsCount (Splice first gone fresh) count = ⊥
+
+-- the shift of a window of so many buckets, `stood` of which were there at the last run: what stayed, went and came adds
+-- up, and the late places are of leaves that stayed
+abbrev pub FitsSlide : ℕ → Shift → ℕ → Type 0
+FitsSlide stood (Slide first gone places fresh) count = (fresh ≤ count) × (stood ≡ gone + (count - fresh)) × All (λ p. p < count - fresh) places
+FitsSlide stood (Splice first gone fresh) count = ⊥

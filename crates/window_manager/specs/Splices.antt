@@ -5,13 +5,14 @@ use Rattle.marker_chunker.specs.Cuts.{chunks_of}
 use Rattle.chunk_store.specs.declared.change.Change.{Change}
 use Rattle.chunk_store.specs.declared.change.EditFault.{EditFault}
 use Rattle.chunk_store.specs.declared.change.EditFault.TheVariants as EditFaults
+use Rattle.chunk_store.specs.Documents.{IsSplice}
 use Rattle.chunk_store.specs.Files.{IsEditOf, IsLoadOf}
 use Rattle.record_text.specs.declared.command.Command.{Command}
 use Rattle.record_text.specs.declared.command.Command.TheVariants.{Remove, Edit, Load}
 use Rattle.record_text.specs.declared.shift.Shift.{Shift}
 use Rattle.record_text.specs.declared.shift.Shift.TheVariants.{Slide, Splice}
 use Rattle.record_text.specs.declared.kind.Kind.TheVariants as Kinds
-use Rattle.window_manager.specs.Windows.{WindowState, empty_window, window_after, has_command, asks_too_many, brought, first_refused, record_refusal}
+use Rattle.window_manager.specs.Windows.{Leaf, WindowState, empty_window, window_after, has_command, asks_too_many, brought, first_refused, record_refusal}
 use Rattle.window_manager.specs.declared.fault.WindowFault.{WindowFault}
 use Rattle.window_manager.specs.declared.fault.WindowFault.TheVariants.{NotHere, TooMany, WindowLarge, Mem}
 
@@ -54,12 +55,22 @@ no_document places = record { window = empty_window Kinds.Document places; stood
 abbrev pub document_anew : DocumentView → DocumentView
 document_anew v = record { window = v.window; stood = length v.window.leaves; splice = Splice 0 0 0 }
 
+-- the leaves became others by this splice: those in front of it and those behind it are the ones that stood
+abbrev pub Leads : List Leaf → List Leaf → Shift → Type 0
+Leads olds news (Splice first gone fresh) = IsSplice olds news (record { first = first; gone = gone; fresh = fresh })
+Leads olds news (Slide first gone places fresh) = ⊥
+
+-- where a splice leads to some leaves and a change on from them, the splice put together leads all the way
+abbrev pub SplicesJoin : Type 0
+SplicesJoin = (olds mids news : List Leaf) (splice : Shift) (change : Change) → Leads olds mids splice → IsSplice mids news change → Leads olds news (splice_after (length olds) (length mids) (length news) splice change)
+
 -- after a command that a document carried out
 pub record IsAfter (old new : DocumentView) (c : Command) : Type 0 where
   pub window : new.window ≡ window_after old.window c
   pub stood : new.stood ≡ old.stood
   pub change : Change
   pub changes : IsChangeOf old.window c change
+  pub spliced : IsSplice old.window.leaves new.window.leaves change
   pub splice : new.splice ≡ splice_after old.stood (length old.window.leaves) (length new.window.leaves) old.splice change
 
 -- a command was carried out, or refused with the document as it was: want of memory comes only where nothing refuses it

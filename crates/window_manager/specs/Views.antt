@@ -1,14 +1,15 @@
 -- A window of any kind, and what its calls promise.
-use Rattle.std.specs.Prelude.{◌≡◌, ◌≢◌, ℕ, List, [], length, Option, Result, Ok, Err}
+use Rattle.std.specs.Prelude.{◌≡◌, ◌≢◌, ℕ, [], length, Option, Result, Ok, Err}
 use Rattle.std.specs.declared.option.Option.TheVariants.{Some, None}
 use Rattle.chunk_store.specs.declared.change.Change.{Change}
+use Rattle.chunk_store.specs.Documents.{IsSplice}
 use Rattle.record_text.specs.declared.command.Command.{Command}
 use Rattle.record_text.specs.declared.kind.Kind.{Kind}
 use Rattle.record_text.specs.declared.kind.Kind.TheVariants as Kinds
 use Rattle.record_text.specs.declared.shift.Shift.{Shift}
 use Rattle.record_text.specs.declared.shift.Shift.TheVariants.{Splice}
 use Rattle.window_manager.specs.Windows.{WindowState, empty_window, window_after}
-use Rattle.window_manager.specs.Slides.{Slid, not_slid, slid_after, slid_anew, slide_of, FitsCount}
+use Rattle.window_manager.specs.Slides.{Slid, not_slid, slid_after, slid_anew, slide_of, FitsSlide}
 use Rattle.window_manager.specs.Splices.{IsChangeOf, splice_after, FitsSplice}
 use Rattle.window_manager.specs.declared.fault.WindowFault.{WindowFault}
 use Rattle.window_manager.specs.declared.fault.WindowFault.TheVariants.{Mem}
@@ -38,6 +39,11 @@ abbrev pub shift_by : Kind → ℕ → Slid → Shift → Shift
 shift_by Kinds.Document count slid splice = splice
 shift_by kind count slid splice = slide_of count slid
 
+-- the shift of a window of so many leaves, `stood` of which were there at the last run
+abbrev pub FitsShift : Kind → ℕ → Shift → ℕ → Type 0
+FitsShift Kinds.Document stood shift count = FitsSplice stood shift count
+FitsShift kind stood shift count = FitsSlide stood shift count
+
 -- the shift of a window
 abbrev pub shift_of : WindowView → Shift
 shift_of v = shift_by v.window.kind (length v.window.leaves) v.slid v.splice
@@ -48,6 +54,7 @@ pub record IsDone (old new : WindowView) (c : Command) : Type 0 where
   pub slid : new.slid ≡ slid_after old.window c old.slid
   pub change : Change
   pub changes : IsChangeOf old.window c change
+  pub spliced : old.window.kind ≡ Kinds.Document → IsSplice old.window.leaves new.window.leaves change
   pub splice : new.splice ≡ splice_after old.slid.stood (length old.window.leaves) (length new.window.leaves) old.splice change
 
 -- a command was carried out, or refused with the window as it was: want of memory comes only where nothing refuses it

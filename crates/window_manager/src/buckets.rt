@@ -3,7 +3,7 @@ ghost use Rattle.std.specs.Prelude.{ℕ, Bool, List, ◌≡◌, ◌≢◌, ◌�
 ghost use Rattle.record_text.specs.declared.kind.Kind.TheVariants as Kinds;
 ghost use Rattle.record_text.specs.declared.command.Command.TheVariants.{Bucket, Drop, Late, Run};
 ghost use Rattle.window_manager.specs.Windows.{asks_too_many, is_circle, is_large, refusal_of, window_after};
-ghost use Rattle.window_manager.specs.Slides.{FitsCount, slide_of};
+ghost use Rattle.window_manager.specs.Slides.{FitsSlide, slide_of};
 ghost use Rattle.window_manager.specs.Buckets.{Applied, IsAllowed, IsOfBuckets, buckets_after, buckets_anew, leaving, no_buckets, text_size};
 
 use crate::WindowFault;
@@ -82,7 +82,7 @@ impl BucketWindow {
     /// How the buckets changed since the last run. It takes no memory.
     pub fn shift(&self) -> &Shift
         ensures slide { result.now ≡ slide_of (length self.now.window.leaves) self.now.slid }
-        ensures fits { FitsCount result.now (length self.now.window.leaves) }
+        ensures fits { FitsSlide self.now.slid.stood result.now (length self.now.window.leaves) }
     {
         &self.shift
     }

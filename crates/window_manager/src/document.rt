@@ -186,13 +186,7 @@ impl DocumentWindow {
     }
 
     /// Why an edit is refused for all but the text that there would be.
-    fn edit_refusal<J: Job>(
-        &self,
-        at: u32,
-        del: u32,
-        ins: &Records,
-        job: &J,
-    ) -> Option<WindowFault>
+    fn edit_refusal<J: Job>(&self, at: u32, del: u32, ins: &Records, job: &J) -> Option<WindowFault>
         ensures { result ≡ early_refusal (J.accepts (J.setting job.now)) self.now.window (Edit at del ins.now) }
     {
         if at as usize + del as usize > self.files.record_count() || self.is_one_too_many(ins) {

@@ -13,8 +13,10 @@ mod leaves;
 mod records;
 mod slide;
 mod splice;
+#[cfg(test)]
+mod tests;
 mod window;
 
 pub use fault::WindowFault;
-pub use laws::same_without_files;
+pub use laws::{same_without_files, splices_join};
 pub use window::Window;

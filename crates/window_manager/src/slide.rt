@@ -19,10 +19,10 @@ pub fn slide_on(
     requires small { (count ≤ 65536) × (came ≤ 1) }
     requires accepted { (slid_by shift.old count).accepted < 2 ^ 63 }
     ensures slid { OnOk result (slid_by shift.new (count + came - went) ≡ record {
-        accepted = (slid_by shift.old count).accepted + came;
-        stood = (slid_by shift.old count).stood;
-        fresh = min ((slid_by shift.old count).fresh + came) (count + came - went);
-        late = lowered went (slid_by shift.old count).late;
+      accepted = (slid_by shift.old count).accepted + came;
+      stood = (slid_by shift.old count).stood;
+      fresh = min ((slid_by shift.old count).fresh + came) (count + came - went);
+      late = lowered went (slid_by shift.old count).late;
     }) }
     ensures fits { OnOk result (FitsCount shift.new (count + came - went)) }
     ensures err { OnErr result (shift.new ≡ shift.old) }
@@ -54,10 +54,10 @@ pub fn mark_late(
 ) -> Result<(), AllocError>
     requires { FitsCount shift.old count }
     ensures slid { OnOk result (slid_by shift.new count ≡ record {
-        accepted = (slid_by shift.old count).accepted;
-        stood = (slid_by shift.old count).stood;
-        fresh = (slid_by shift.old count).fresh;
-        late = if nat_lt place (count - (slid_by shift.old count).fresh) then with_place place (slid_by shift.old count).late else (slid_by shift.old count).late;
+      accepted = (slid_by shift.old count).accepted;
+      stood = (slid_by shift.old count).stood;
+      fresh = (slid_by shift.old count).fresh;
+      late = if nat_lt place (count - (slid_by shift.old count).fresh) then with_place place (slid_by shift.old count).late else (slid_by shift.old count).late;
     }) }
     ensures fits { OnOk result (FitsCount shift.new count) }
     ensures err { OnErr result (shift.new ≡ shift.old) }

@@ -1,7 +1,7 @@
 // A window of any kind.
 ghost use Rattle.std.specs.Prelude.{◌≡◌, ◌≤◌, ◌<◌, ◌^◌, [], length, slice_index_or};
 ghost use Rattle.window_manager.specs.Windows.{refusal_of};
-ghost use Rattle.window_manager.specs.Views.{Done, no_leaves, shift_of, view_anew};
+ghost use Rattle.window_manager.specs.Views.{Done, FitsShift, no_leaves, shift_of, view_anew};
 
 use crate::WindowFault;
 use crate::buckets::BucketWindow;
@@ -81,7 +81,8 @@ impl Window {
 
     /// How the leaves changed since the last run. It takes no memory.
     pub fn shift(&self) -> &Shift
-        ensures { result.now ≡ shift_of self.now }
+        ensures shift { result.now ≡ shift_of self.now }
+        ensures fits { FitsShift self.now.window.kind self.now.slid.stood result.now (length self.now.window.leaves) }
     {
         match &self.held {
             Held::OfBuckets(buckets) => buckets.shift(),

@@ -1,4 +1,4 @@
-use Rattle.std.proofs.Common.{◌≡◌, ◌++◌, ◌∷◌, ◌-◌, ◌+◌, ◌<◌, ℕ, [], List, All, length, get_or, arith, ap, sym, ◌∙◌, subst}
+use Rattle.std.proofs.Common.{◌++◌, ◌∷◌, ◌-◌, ◌+◌, ◌<◌, ℕ, [], List, All, length, get_or, arith, ap, sym, ◌∙◌, subst}
 use Rattle.window_manager.proofs.PlaceLaws.{lowered_takes, lowered_skips, rises, all_on, all_more}
 use Rattle.window_manager.proofs.late_places.lower.Goals.{then-by-place+in_ok-push, else-by-place}
 use Rattle.window_manager.proofs.late_places.lower.Goals as goal

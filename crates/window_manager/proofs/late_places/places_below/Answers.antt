@@ -1,4 +1,4 @@
-use Rattle.std.proofs.Common.{◌≡◌, ◌++◌, ◌∷◌, ◌+◌, ◌<◌, ◌≤◌, ℕ, [], List, All, length, get_or, arith, ap, sym, ◌∙◌, subst}
+use Rattle.std.proofs.Common.{◌++◌, ◌∷◌, ◌+◌, ◌<◌, ℕ, [], List, All, length, get_or, arith, ap, sym, ◌∙◌, subst}
 use Rattle.std.specs.Prelude.{nat_lt}
 use Rattle.window_manager.proofs.PlaceLaws.{filter_takes, filter_skips, rises, all_less, all_push, nat_below, nat_not_below}
 use Rattle.window_manager.proofs.late_places.places_below.Goals.{then-other-place+in_ok-push, else-other-place}

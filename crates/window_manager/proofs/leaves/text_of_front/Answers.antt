@@ -1,4 +1,4 @@
-use Rattle.std.proofs.Common.{◌≡◌, ◌+◌, ◌<◌, List, ℕ, length, take, drop, arith, sym, ap, ◌∙◌}
+use Rattle.std.proofs.Common.{◌≡◌, ◌+◌, ℕ, length, take, arith, ap, ◌∙◌}
 use Rattle.definitions.specs.Records.{text_of}
 use Rattle.window_manager.specs.Windows.{Leaf}
 use Rattle.window_manager.specs.Buckets.{text_size}

@@ -1,9 +1,8 @@
-use Rattle.std.proofs.Common.{rules, ◌≡◌, ◌≢◌, ◌≤◌, ◌<◌, ◌+◌, ◌-◌, ◌++◌, ◌∷◌, [], ℕ, List, false, length, get_or, refl, sym, ap, ◌∙◌, subst, arith}
+use Rattle.std.proofs.Common.{rules, ◌≡◌, ◌≢◌, ◌≤◌, ◌<◌, ◌+◌, ◌++◌, [], ℕ, List, false, length, sym, ap, ◌∙◌, subst, arith}
 use Rattle.std.specs.Prelude.{slice_set}
 use Rattle.record_text.specs.declared.command.Command.TheVariants.{Late}
-use Rattle.record_text.specs.declared.shift.Shift.{Shift}
 use Rattle.window_manager.specs.Windows.{Leaf, WindowState, is_large, window_after, with_late}
-use Rattle.window_manager.specs.Slides.{FitsCount, Slid, slid_by, slid_after}
+use Rattle.window_manager.specs.Slides.{FitsCount, slid_by, slid_after}
 use Rattle.window_manager.specs.Buckets.{AreKept, BucketView, buckets_after, text_size}
 use Rattle.window_manager.proofs.TextLaws.{size_late, count_late, late_set}
 use Rattle.window_manager.proofs.BucketLaws.{late_none, late_kept, few_records, late_slid, marked, not_large}
@@ -53,8 +52,8 @@ returns-clause-ok c =
     let count : c.len.result ≡ length leaves = search rules in
     let some : more ≢ [] = search rules in
     let slid : slid_by c.mark_late.new.shift (length (with_late place more leaves)) ≡ slid_after w (Late place more) (slid_by b.shift (length leaves)) =
-        ap (slid_by c.mark_late.new.shift) (count_late place more leaves)
-        ∙ subst (λ (n : ℕ). slid_by c.mark_late.new.shift n ≡ late_slid (slid_by b.shift n) n place) count c.in_ok-mark_late.ensures.slid
-        ∙ marked w (slid_by b.shift (length leaves)) place more some in
+    ap (slid_by c.mark_late.new.shift) (count_late place more leaves)
+    ∙ subst (λ (n : ℕ). slid_by c.mark_late.new.shift n ≡ late_slid (slid_by b.shift n) n place) count c.in_ok-mark_late.ensures.slid
+    ∙ marked w (slid_by b.shift (length leaves)) place more some in
     (λ i. record { window = record w { leaves = items i }; slid = (ap (λ (l : List Leaf). slid_by c.mark_late.new.shift (length l)) items ∙ slid) i })
     ∙ ap (λ (v : BucketView). buckets_after v (Late place more)) c.self.view_is

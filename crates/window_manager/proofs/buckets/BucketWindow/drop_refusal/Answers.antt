@@ -1,4 +1,4 @@
-use Rattle.std.proofs.Common.{rules, ◌≡◌, ◌≤◌, true, [], length, ◌∙◌, subst, arith}
+use Rattle.std.proofs.Common.{rules, ◌≡◌, true, [], length, ◌∙◌, subst, arith}
 use Rattle.std.specs.declared.option.Option.TheVariants.{None}
 use Rattle.record_text.specs.declared.command.Command.TheVariants.{Drop}
 use Rattle.window_manager.specs.Windows.{WindowState, refusal_of}

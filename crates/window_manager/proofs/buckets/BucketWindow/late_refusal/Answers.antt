@@ -1,4 +1,4 @@
-use Rattle.std.proofs.Common.{rules, ◌≡◌, ◌<◌, true, [], length, ap, ◌∙◌, arith}
+use Rattle.std.proofs.Common.{rules, ◌≡◌, ◌<◌, true, [], length, ap, ◌∙◌}
 use Rattle.record_text.specs.declared.command.Command.TheVariants.{Late}
 use Rattle.window_manager.specs.Windows.{WindowState, refusal_of}
 use Rattle.window_manager.specs.Buckets.{BucketView}

@@ -1,4 +1,4 @@
-use Rattle.std.proofs.Common.{rules, ◌≡◌, ◌≤◌, ◌+◌, ◌-◌, ◌++◌, ◌∷◌, [], ℕ, List, false, length, drop, refl, sym, ap, ◌∙◌, subst, arith}
+use Rattle.std.proofs.Common.{rules, ◌≡◌, ◌+◌, ◌-◌, ◌++◌, ◌∷◌, [], ℕ, List, false, length, drop, sym, ap, ◌∙◌, subst, arith}
 use Rattle.record_text.specs.declared.command.Command.TheVariants.{Bucket}
 use Rattle.window_manager.specs.Windows.{Leaf, WindowState, asks_too_many, is_large, window_after}
 use Rattle.window_manager.specs.Slides.{FitsCount}

@@ -12,5 +12,5 @@ returns-in-Drop g c =
 pub returns-in_default : goal.returns-in_default
 returns-in_default g c =
     other_refused (g.J.Job.accepts (g.J.Job.setting c.args.job.now)) c.args.self.now.window c.args.c.now
-        (subst (λ (v : BucketView). IsOfBuckets v.window) c.self.view_is c.self.invariant.window)
-        (is_other c.args.c.now c.in_default.not-Bucket c.in_default.not-Drop c.in_default.not-Late)
+    (subst (λ (v : BucketView). IsOfBuckets v.window) c.self.view_is c.self.invariant.window)
+    (is_other c.args.c.now c.in_default.not-Bucket c.in_default.not-Drop c.in_default.not-Late)
