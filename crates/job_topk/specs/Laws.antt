@@ -1,12 +1,11 @@
 -- The laws of `topk`.
-use Rattle.std.specs.Prelude.{◌≡◌, ◌≤◌, ℕ, zero, suc, min, max, Bool, true, false, cond, List, [], ◌∷◌, length, take, Option, Some, None}
+use Rattle.std.specs.Prelude.{◌≡◌, ◌≤◌, ℕ, zero, suc, min, Bool, true, false, cond, List, [], ◌∷◌, length, take, Option, Some, None}
 use Rattle.std.proofs.Common.{refl, sym, ap, subst, ◌∙◌, arith, length-take}
 use Rattle.std.specs.declared.cmp.Ordering.{Ordering}
 use Rattle.std.specs.declared.cmp.Ordering.TheVariants.{Less, Equal, Greater}
 use Rattle.std.specs.Ordering.{nat_cmp, is_gt, is_eq, ordering_reverse, ordering_then}
 use Rattle.std.specs.Cmp.{IsTotalOrder}
 use Rattle.std.proofs.lemmas.Cmp.{upto, nat_cmp_total, nat_list_cmp_total, on_total, then_total, back_total}
-use Rattle.definitions.specs.Numbers.{digits_value}
 use Rattle.definitions.specs.Tables.{HasGoodValues, IsGoodJoin, key_cmp}
 use Rattle.definitions.proofs.TableLaws.{tied_keys}
 use Rattle.job_laws.specs.Forms.{split_at_tab}

@@ -1,5 +1,5 @@
 -- Merging two lists in an order, repeats kept.
-use Rattle.std.specs.Prelude.{◌≡◌, Bool, false, cond, List, [], ◌∷◌}
+use Rattle.std.specs.Prelude.{◌≡◌, false, cond, List, [], ◌∷◌}
 use Rattle.std.specs.declared.cmp.Ordering.{Ordering}
 use Rattle.std.specs.Ordering.{is_gt}
 

@@ -1,5 +1,5 @@
 -- The job `topk`: the first members of each group, score falling.
-use Rattle.std.specs.Prelude.{◌≡◌, ◌≤◌, ℕ, Bool, true, false, ◌&&◌, cond, max, nat_le, nat_lt, IsTrue, List, [], ◌∷◌, ◌++◌, length, take, decimal, Option, Some, None}
+use Rattle.std.specs.Prelude.{◌≤◌, ℕ, Bool, ◌&&◌, max, nat_le, List, [], ◌∷◌, ◌++◌, length, take, decimal, Option, Some, None}
 use Rattle.std.specs.declared.cmp.Ordering.{Ordering}
 use Rattle.std.specs.List.{flat_map}
 use Rattle.std.specs.Ordering.{nat_cmp, on, then_cmp, flip_args}

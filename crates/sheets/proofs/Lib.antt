@@ -4,3 +4,7 @@ pub mod EntryLaws
 pub mod TieLaws
 pub mod MergedLaws
 pub mod PartLaws
+pub mod UnitedLaws
+mod AnswerSteps
+mod LeastSteps
+pub mod PartUnion

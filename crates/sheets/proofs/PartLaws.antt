@@ -1,15 +1,13 @@
 -- The entries of each part.
-use Rattle.std.proofs.Common.{◌≡◌, ◌≢◌, ℕ, ◌<◌, Bool, true, false, cond, ◌==◌, ◌%◌, List, [], ◌∷◌, ◌++◌, length, filter, map, replicate, All, length-set, get_or-set_same, get_or-set_other, refl, sym, ap, subst, ◌∙◌, append-nil, arith}
+use Rattle.std.proofs.Common.{◌≡◌, ◌≢◌, ℕ, ◌<◌, Bool, true, false, cond, ◌==◌, ◌%◌, List, [], ◌∷◌, ◌++◌, map, replicate, All, length-set, get_or-set_same, get_or-set_other, refl, sym, ap, subst, ◌∙◌, append-nil, arith}
 use Rattle.std.specs.Prelude.{slice_index_or, slice_set}
 use Rattle.std.specs.FinMap.Entries.{is_sorted-where_key}
 use Rattle.std.proofs.lemmas.List.{get_or-map, length-map, length-replicate, get_or-replicate}
 use Rattle.std.proofs.lemmas.List.Elements.{filter-append}
-use Rattle.std.proofs.lemmas.Bool.{eq-eqb, ne_eqb}
 use Rattle.std.proofs.lemmas.Bool.Decides.{nat_tests}
 use Rattle.definitions.specs.Tables.{key_cmp, IsRising, HasGoodValues}
 use Rattle.definitions.proofs.TableLaws.{is_true, passes}
 use Rattle.partition.specs.Parts.{hash_of, part_number}
-use Rattle.sheets.specs.Sheets.{SheetOf}
 use Rattle.sheets.specs.Parts.{in_part, HasParts, AreSheets}
 
 module _ {V : Type 0} (parts : ℕ) where

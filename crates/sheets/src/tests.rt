@@ -2,7 +2,7 @@
 ghost use Rattle.std.specs.Prelude.{◌≡◌, ◌<◌, ◌++◌, ◌∷◌, [], true, ◌&&◌, nat_le, take, length, refl, IsTrue, All};
 ghost use Rattle.job_laws.specs.Encoding.{be64};
 
-use crate::{Sheet, map_sheets, merge_sheets, same_sheet};
+use crate::{Sheet, answer_of, map_sheets, merge_sheets, same_sheet};
 use job_laws::{CountMeter, Counts, Emit, Job, Key, Meter, be64_bytes};
 use record_text::{Records, is_record};
 use std::alloc::{AllocError, Global};
@@ -235,6 +235,55 @@ fn each_key_stands_in_its_own_part(rt: HostRuntime) -> Result<(), Fail> {
         }
     }
     assert_eq!(rt; m.counts().maps, 3);
+    Ok(())
+}
+
+// The lines of the records in 16 parts, in one order, with how many entries there are; none where the job does not accept
+// the records.
+fn answered<J: Job>(
+    alloc: Global,
+    job: &J,
+    text: &[u8],
+    m: &mut J::Meter,
+) -> Result<(Vec<u8>, u64), AllocError> {
+    let mut records = Records::new(alloc);
+    for line in text.split(|b| *b == b'\n') {
+        if is_record(line) && records.len() < 9 {
+            records.push(line)?;
+        }
+    }
+    let mut out = Vec::new(alloc);
+    let mut count = 0;
+    if all_accepted(job, &records) {
+        count = answer_in_parts(alloc, job, &records, &mut out, m)?;
+    }
+    Ok((out, count))
+}
+
+fn answer_in_parts<J: Job>(
+    alloc: Global,
+    job: &J,
+    records: &Records,
+    out: &mut Vec<u8>,
+    m: &mut J::Meter,
+) -> Result<u64, AllocError>
+    requires { All (λ r. IsTrue (J.accepts (J.setting job.now) r)) records.now }
+{
+    let roots = map_sheets(alloc, job, records, 16, m)?;
+    answer_of(alloc, job, roots.as_slice(), out)
+}
+
+#[test]
+fn parts_are_written_in_one_key_order(rt: HostRuntime) -> Result<(), Fail> {
+    let alloc = rt.alloc();
+    let job = LastLength { meter: PhantomData };
+    let mut m = CountMeter::new();
+    let (lines, count) = answered(alloc, &job, b"c\na\nb\naaa", &mut m)?;
+    assert_eq!(rt; lines.as_slice(), b"abc".as_slice());
+    assert_eq!(rt; count, 3);
+    let (none, no_keys) = answered(alloc, &job, b"", &mut m)?;
+    assert_eq!(rt; none.len(), 0);
+    assert_eq!(rt; no_keys, 0);
     Ok(())
 }
 

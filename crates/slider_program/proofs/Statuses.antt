@@ -1,10 +1,10 @@
 -- What the status after a script's fault says.
-use Rattle.std.proofs.Common.{◌≡◌, ◌≢◌, ℕ, List, [], ◌++◌, refl, sym, ap, ◌∙◌, subst, append-nil, arith, inl, inr, ◌⊎◌}
+use Rattle.std.proofs.Common.{◌≡◌, ◌≢◌, ℕ, List, [], refl, sym, ◌∙◌, subst, append-nil, inl, inr, ◌⊎◌}
 use Rattle.std.specs.Prelude.{Option}
 use Rattle.definitions.specs.Outside.{Rose, Told, GainsFront}
 use Rattle.definitions.proofs.ToldBytes.{told_same, told_with}
 use Rattle.record_text.specs.declared.script_fault.Why.{Why}
-use Rattle.record_text.specs.Script.{Ending, Faulty, commands}
+use Rattle.record_text.specs.Script.{Ending, commands}
 use Rattle.window_manager.specs.Windows.{WindowState}
 use Rattle.slider_session.specs.Output.{Meaning, output_of, ending_of}
 use Rattle.record_text.specs.Lines.{whole_lines}

@@ -1,6 +1,6 @@
 -- The jobs accept the records of their forms.
-use Rattle.std.proofs.Common.{◌≡◌, ◌≤◌, ℕ, List, length, true, refl, arith}
-use Rattle.std.specs.Prelude.{Bool, ◌&&◌, nat_le}
+use Rattle.std.proofs.Common.{◌≡◌, ℕ, List, length, true, refl, arith}
+use Rattle.std.specs.Prelude.{nat_le}
 use Rattle.std.proofs.lemmas.Bool.Decides.{nat_tests}
 use Rattle.definitions.specs.Records.{IsRecord}
 use Rattle.job_laws.specs.Forms.{is_count_record, is_index_record, is_latest_record, is_topk_record}

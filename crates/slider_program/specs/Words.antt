@@ -1,5 +1,5 @@
 -- The words of the command line, and those that stand on `err`.
-use Rattle.std.specs.Prelude.{◌≡◌, ◌≤◌, ℕ, Bool, ◌&&◌, if◌then◌else◌, nat_le, List, [], ◌∷◌, ◌++◌, codes, bytes_eq, decimal, Option}
+use Rattle.std.specs.Prelude.{◌≤◌, ℕ, Bool, ◌&&◌, if◌then◌else◌, nat_le, List, [], ◌∷◌, ◌++◌, codes, bytes_eq, decimal, Option}
 use Rattle.std.specs.declared.option.Option.TheVariants.{Some, None}
 use Rattle.definitions.specs.Numbers.{is_number, digits_value}
 use Rattle.record_text.specs.declared.script_fault.Why.{Why}

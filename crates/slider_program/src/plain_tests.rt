@@ -105,7 +105,9 @@ fn scripts_are_answered_as_by_the_plain_program(rt: HostRuntime) -> Result<(), A
 }
 
 #[test]
-fn scripts_with_broken_lines_end_as_in_the_plain_program(rt: HostRuntime) -> Result<(), AllocError> {
+fn scripts_with_broken_lines_end_as_in_the_plain_program(
+    rt: HostRuntime,
+) -> Result<(), AllocError> {
     for seed in 0..40u64 {
         let script = script_from(rt.alloc(), seed, 12, 16)?;
         assert!(rt; counts_alike(&rt, rt.alloc(), script.as_slice())?);

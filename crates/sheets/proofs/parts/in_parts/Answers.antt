@@ -1,4 +1,4 @@
-use Rattle.std.proofs.Common.{◌≡◌, ◌∙◌, ap}
+use Rattle.std.proofs.Common.{◌∙◌, ap}
 use Rattle.partition.specs.Parts.{part_number}
 use Rattle.sheets.proofs.PartLaws.{put_in_part}
 use Rattle.sheets.proofs.parts.in_parts.Goals as goal

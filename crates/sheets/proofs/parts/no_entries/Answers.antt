@@ -1,4 +1,4 @@
-use Rattle.std.proofs.Common.{◌≡◌, ◌∙◌, [], ap, sym, subst, arith}
+use Rattle.std.proofs.Common.{◌∙◌, [], ap, sym, subst, arith}
 use Rattle.std.specs.Prelude.{replicate}
 use Rattle.sheets.specs.Parts.{HasParts}
 use Rattle.sheets.proofs.PartLaws.{no_parts}

@@ -1,7 +1,6 @@
 use Rattle.std.proofs.Common.{◌≡◌, All}
 use Rattle.std.specs.Prelude.{map}
 use Rattle.definitions.specs.Tables.{IsRising, HasGoodValues}
-use Rattle.sheets.specs.Sheets.{SheetOf}
 use Rattle.sheets.proofs.parts.sheets_of_parts.Given as goal
 
 abbrev pub invariant-lists : goal.invariant-lists

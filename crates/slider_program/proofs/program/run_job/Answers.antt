@@ -1,4 +1,4 @@
-use Rattle.std.proofs.Common.{◌≡◌, refl}
+use Rattle.std.proofs.Common.{refl}
 use Rattle.slider_session.specs.Output.{meaning}
 use Rattle.slider_program.specs.Words.{first_window}
 use Rattle.slider_program.proofs.Statuses.{fault_answered, read_answered, write_answered, memory_answered}

@@ -1,0 +1,12 @@
+// What parts of tables are to each other.
+ghost use Rattle.std.specs.Prelude.{ℕ};
+ghost use Rattle.sheets.specs.Parts.{PartsAppend, PartsMerge, PartsUnite};
+
+use job_laws::Job;
+
+/// The laws of the parts of a job's tables, at each setting. A call does nothing; its caller knows them.
+pub fn part_laws<J: Job>()
+    ensures append { (s : ℕ) → PartsAppend (J.good s) (J.joined s) }
+    ensures merge { (s : ℕ) → PartsMerge (J.joined s) }
+    ensures unite { PartsUnite J.Val }
+{}
