@@ -1,3 +1,4 @@
 mod KeyLaws
 mod WindowLaws
+mod PartLaws
 mod ScriptSteps

@@ -1,12 +1,16 @@
 -- Reading and walking a script, one command after the other.
-use Rattle.std.proofs.Common.{◌≡◌, ℕ, List, [], ◌∷◌, ◌++◌, refl, sym, ap, ◌∙◌, append_assoc}
+use Rattle.std.proofs.Common.{◌≡◌, ◌≢◌, ℕ, List, [], ◌∷◌, ◌++◌, refl, sym, ap, ◌∙◌, append_assoc}
 use Rattle.std.specs.Prelude.{Option}
 use Rattle.std.specs.declared.option.Option.TheVariants.{Some, None}
 use Rattle.std.specs.Option.{option_or}
 use Rattle.record_text.specs.declared.command.Command.{Command}
+use Rattle.record_text.specs.declared.command.Command.TheVariants.{Run}
 use Rattle.record_text.specs.declared.script_fault.ScriptFault.{ScriptFault}
 use Rattle.record_text.specs.Script.{Script, Ending, with_command}
-use Rattle.slider_session.specs.Output.{Meaning, after_bytes, outcome_from, outcome_of}
+use Rattle.window_manager.specs.Windows.{WindowState, window_after, refusal_of}
+use Rattle.window_manager.specs.declared.fault.WindowFault.{WindowFault}
+use Rattle.slider_session.specs.Output.{Meaning, Outcome, after_bytes, ended_by, unless_refused, on_command, outcome_from, outcome_of}
+use Rattle.slider_session.proofs.Stepping.{not_run}
 use Rattle.plain_program.specs.Plain.{ending_of_rest}
 use Rattle.plain_program.specs.Walk.{walked_from}
 use Rattle.plain_program.specs.declared.walk.PlainWalk.{PlainWalk}
@@ -25,7 +29,15 @@ pub first_fault : (refused fault : Option ScriptFault) (ending : Ending) → end
 first_fault None fault ending = refl
 first_fault (Some f) fault ending = refl
 
+-- a command other than a run: carried out by the window, or refused
+module _ {V : Type 0} (j : Meaning V) (w : WindowState) (c : Command) (other : c ≢ Run) (i line : ℕ) (go : ℕ → WindowState → Outcome) where
+  pub carried : refusal_of j.accepts w c ≡ None → on_command j i w c line go ≡ go i (window_after w c)
+  carried none = not_run j i w c line go other ∙ ap (λ o. unless_refused o line (go i (window_after w c))) none
+
+  pub refused : (fault : WindowFault) → refusal_of j.accepts w c ≡ Some fault → on_command j i w c line go ≡ ([], ended_by line fault)
+  refused fault is = not_run j i w c line go other ∙ ap (λ o. unless_refused o line (go i (window_after w c))) is
+
 -- a walk from the start over all commands of a script is its outcome
-pub whole_walk : {V : Type 0} (j : Meaning V) (walk : PlainWalk) (commands : List (Command × ℕ)) (ending : Ending) (script : Script) → walk.run ≡ 1 → walk.leaves.items ≡ [] → walk.written.items ≡ [] → (commands, ending) ≡ script → walked_from j walk commands ending ≡ outcome_of j script
+pub whole_walk : {V : Type 0} (j : Meaning V) (w : WindowState) (walk : PlainWalk) (commands : List (Command × ℕ)) (ending : Ending) (script : Script) → walk.run ≡ 1 → walk.window ≡ w → walk.written.items ≡ [] → (commands, ending) ≡ script → walked_from j walk commands ending ≡ outcome_of j w script
 unfolding outcome_of
-whole_walk j walk commands ending script run leaves written is = λ i. after_bytes (written i) (outcome_from j (run i) (leaves i) (is i).0 (is i).1)
+whole_walk j w walk commands ending script run window written is = λ i. after_bytes (written i) (outcome_from j (run i) (window i) (is i).0 (is i).1)

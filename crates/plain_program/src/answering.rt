@@ -1,15 +1,15 @@
 // What one run writes.
-ghost use Rattle.std.specs.Prelude.{◌≡◌, ◌++◌, ◌∷◌, [], All, OnOk};
+ghost use Rattle.std.specs.Prelude.{◌≡◌, ◌++◌, ◌∷◌, [], OnOk};
 ghost use Rattle.definitions.specs.Tables.{HasGoodValues, reduced, tabulate};
 ghost use Rattle.definitions.specs.Answer.{lines_of};
-ghost use Rattle.slider_session.specs.Window.{AllAccepted};
 ghost use Rattle.slider_session.specs.Output.{meaning, piece};
+ghost use Rattle.slider_session.specs.Accepted.{HoldsAccepted};
 
 use crate::keys::plain_keys;
 use crate::pairs::plain_pairs;
 use crate::reducing::plain_reduced;
+use crate::window::PlainWindow;
 use job_laws::{Job, Key};
-use record_text::Records;
 use std::alloc::{AllocError, Global};
 
 /// Appends to `out` what a run writes over a window: its header, and the lines of each key in byte order.
@@ -17,14 +17,14 @@ pub(crate) fn plain_piece<J: Job>(
     alloc: Global,
     job: &J,
     run: u64,
-    leaves: &[Records],
+    window: &PlainWindow,
     out: &mut Vec<u8>,
     m: &mut J::Meter,
 ) -> Result<(), AllocError>
-    requires { All (AllAccepted (J.accepts (J.setting job.now))) leaves.now }
-    ensures { OnOk result (out.new.items ≡ out.old.items ++ piece (meaning (J.accepts (J.setting job.now)) (J.emits (J.setting job.now)) (J.joined (J.setting job.now)) (J.text (J.setting job.now))) run leaves.now) }
+    requires { HoldsAccepted (J.accepts (J.setting job.now)) window.now }
+    ensures { OnOk result (out.new.items ≡ out.old.items ++ piece (meaning (J.accepts (J.setting job.now)) (J.emits (J.setting job.now)) (J.joined (J.setting job.now)) (J.text (J.setting job.now))) run window.now) }
 {
-    let pairs = plain_pairs(alloc, job, leaves, m)?;
+    let pairs = plain_pairs(alloc, job, window.leaves.as_slice(), m)?;
     let keys = plain_keys(alloc, pairs.pairs())?;
     let count = keys.len();
     let header = format!(in alloc; "# run {run} keys {count}\n")?;

@@ -1,7 +1,8 @@
 // All pairs of a window.
 ghost use Rattle.std.specs.Prelude.{◌≡◌, ◌++◌, All, IsTrue, IfOk, OnOk};
 ghost use Rattle.definitions.specs.Answer.{pairs_of};
-ghost use Rattle.slider_session.specs.Window.{present, AllAccepted};
+ghost use Rattle.marker_chunker.specs.Cuts.{joined};
+ghost use Rattle.slider_session.specs.Accepted.{AllAccepted};
 
 use job_laws::{Emit, Job};
 use record_text::Records;
@@ -15,7 +16,7 @@ pub(crate) fn plain_pairs<J: Job>(
     m: &mut J::Meter,
 ) -> Result<Emit<J::Val>, AllocError>
     requires { All (AllAccepted (J.accepts (J.setting job.now))) leaves.now }
-    ensures { IfOk result (λ pairs. pairs ≡ pairs_of (J.emits (J.setting job.now)) (present leaves.now)) }
+    ensures { IfOk result (λ pairs. pairs ≡ pairs_of (J.emits (J.setting job.now)) (joined leaves.now)) }
 {
     let mut pairs = Emit::new(alloc);
     'leaves: for i in 0..leaves.len() {

@@ -1,27 +1,29 @@
 // How far a walk over commands is.
 ghost use Rattle.std.specs.Prelude.{◌≡◌, []};
+ghost use Rattle.window_manager.specs.Windows.{empty_window};
 
-use record_text::Records;
+use crate::window::PlainWindow;
+use record_text::Kind;
 use std::alloc::Global;
 
-/// A window as its leaves, the number of the next run, and what was written.
+/// The number of the next run, the window, and what was written.
 #[derive(Drop)]
 pub(crate) struct PlainWalk {
     pub(crate) run: u64,
-    pub(crate) leaves: Vec<Records>,
+    pub(crate) window: PlainWindow,
     pub(crate) written: Vec<u8>,
 }
 
 impl PlainWalk {
-    /// Before the first run, over the empty window.
-    pub(crate) fn new(alloc: Global) -> PlainWalk
+    /// Before the first run, over the empty window of a kind.
+    pub(crate) fn new(alloc: Global, kind: Kind, places: u32) -> PlainWalk
         ensures run { result.run ≡ 1 }
-        ensures leaves { result.leaves.items ≡ [] }
+        ensures window { result.window ≡ empty_window kind places }
         ensures written { result.written.items ≡ [] }
     {
         PlainWalk {
             run: 1,
-            leaves: Vec::new(alloc),
+            window: PlainWindow::new(alloc, kind, places),
             written: Vec::new(alloc),
         }
     }

@@ -1,20 +1,23 @@
 // What is written for a script.
-ghost use Rattle.std.specs.Prelude.{◌≡◌, ◌<◌, ◌≤◌, ◌+◌, ◌^◌, ℕ, All, IfOk, IfSome};
-ghost use Rattle.record_text.specs.declared.command.Command.TheVariants.{Bucket, Run};
-ghost use Rattle.record_text.specs.Script.{Ending, Done, commands};
-ghost use Rattle.slider_session.specs.Window.{AllAccepted, first_refused};
-ghost use Rattle.slider_session.specs.Output.{meaning, outcome_of};
+ghost use Rattle.std.specs.Prelude.{◌≡◌, ◌<◌, ◌≤◌, ◌+◌, ◌^◌, ℕ, None, All, IfOk};
+ghost use Rattle.record_text.specs.declared.command.Command.TheVariants.{Run};
+ghost use Rattle.record_text.specs.Script.{Ending, Done, Faulty, commands};
+ghost use Rattle.window_manager.specs.Windows.{empty_window};
+ghost use Rattle.slider_session.specs.Output.{ended_by, meaning, outcome_of};
+ghost use Rattle.slider_session.specs.Accepted.{HoldsAccepted};
 ghost use Rattle.slider_session.specs.declared.serving.TheConstants.{MOST_SCRIPT};
 ghost use Rattle.plain_program.specs.Plain.{ending_of_rest};
 ghost use Rattle.plain_program.specs.Walk.{Walks, walked_from};
 
 use crate::answering::plain_piece;
 use crate::plain_commands;
+use crate::refusing::plain_apply;
 use crate::walk::PlainWalk;
 use job_laws::Job;
-use record_text::{Command, Records, ScriptFault, Why};
+use record_text::{Command, Kind, ScriptFault, Why};
 use slider_session::MOST_SCRIPT;
 use std::alloc::{AllocError, Global};
+use window_manager::WindowFault;
 
 /// What was written for a script, and the fault that ended it, or none.
 #[derive(Drop)]
@@ -23,17 +26,20 @@ pub struct PlainOutcome {
     pub fault: Option<ScriptFault>,
 }
 
-/// What is written for a script by a job, and how the script ends: each run is computed from nothing.
+/// What is written for a script by a job over a window of a kind, and how the script ends: each run is computed from
+/// nothing.
 pub fn plain_outcome<J: Job>(
     alloc: Global,
     job: &J,
+    kind: Kind,
+    places: u32,
     script: Vec<u8>,
     m: &mut J::Meter,
 ) -> Result<PlainOutcome, AllocError>
-    ensures { IfOk result (λ o. (o.written.items, ending_of_rest o.fault Done) ≡ outcome_of (meaning (J.accepts (J.setting job.now)) (J.emits (J.setting job.now)) (J.joined (J.setting job.now)) (J.text (J.setting job.now))) (commands MOST_SCRIPT script.items)) }
+    ensures { IfOk result (λ o. (o.written.items, ending_of_rest o.fault Done) ≡ outcome_of (meaning (J.accepts (J.setting job.now)) (J.emits (J.setting job.now)) (J.joined (J.setting job.now)) (J.text (J.setting job.now))) (empty_window kind places) (commands MOST_SCRIPT script.items)) }
 {
     let script = plain_commands(alloc, script, MOST_SCRIPT)?;
-    let mut walk = PlainWalk::new(alloc);
+    let mut walk = PlainWalk::new(alloc, kind, places);
     let refused = walk_commands(alloc, job, &script.commands, &mut walk, m)?;
     Ok(PlainOutcome {
         written: walk.written,
@@ -51,7 +57,7 @@ fn walk_commands<J: Job>(
 ) -> Result<Option<ScriptFault>, AllocError>
     requires lines { All (λ c. c.1 < 2 ^ 62) commands.now }
     requires run { walk.old.run ≤ 1 }
-    requires accepted { All (AllAccepted (J.accepts (J.setting job.now))) walk.old.leaves.items }
+    requires accepted { HoldsAccepted (J.accepts (J.setting job.now)) walk.old.window }
     ensures { IfOk result (λ fault. (ending : Ending) → (walk.new.written.items, ending_of_rest fault ending) ≡ walked_from (meaning (J.accepts (J.setting job.now)) (J.emits (J.setting job.now)) (J.joined (J.setting job.now)) (J.text (J.setting job.now))) walk.old commands.now ending) }
 {
     let mut rest = commands;
@@ -77,46 +83,57 @@ fn step<J: Job>(
 ) -> Result<Option<ScriptFault>, AllocError>
     requires line { line < 2 ^ 62 }
     requires run { walk.old.run < 2 ^ 63 }
-    requires accepted { All (AllAccepted (J.accepts (J.setting job.now))) walk.old.leaves.items }
+    requires accepted { HoldsAccepted (J.accepts (J.setting job.now)) walk.old.window }
     ensures walks { IfOk result (λ fault. Walks (meaning (J.accepts (J.setting job.now)) (J.emits (J.setting job.now)) (J.joined (J.setting job.now)) (J.text (J.setting job.now))) walk.old walk.new c.now line fault) }
     ensures run { walk.new.run ≤ walk.old.run + 1 }
-    ensures accepted { All (AllAccepted (J.accepts (J.setting job.now))) walk.new.leaves.items }
+    ensures accepted { IfOk result (λ fault. fault ≡ None → HoldsAccepted (J.accepts (J.setting job.now)) walk.new.window) }
 {
     match c {
-        Command::Bucket(records) => add(alloc, job, records, line, walk),
         Command::Run => answer(alloc, job, walk, m),
-        _ => Ok(Some(ScriptFault {
-            line,
-            why: Why::NotHere,
-        })),
+        c => change(alloc, job, c, line, walk),
     }
 }
 
-/// Adds a bucket to the window, or answers which of its records the job does not accept.
-fn add<J: Job>(
+/// Has the window carry out a command, or answers why it refuses it.
+fn change<J: Job>(
     alloc: Global,
     job: &J,
-    records: &Records,
+    c: &Command,
     line: u64,
     walk: &mut PlainWalk,
 ) -> Result<Option<ScriptFault>, AllocError>
+    requires window { c.now ≡ Run → ⊥ }
     requires line { line < 2 ^ 62 }
-    requires accepted { All (AllAccepted (J.accepts (J.setting job.now))) walk.old.leaves.items }
-    ensures walks { IfOk result (λ fault. Walks (meaning (J.accepts (J.setting job.now)) (J.emits (J.setting job.now)) (J.joined (J.setting job.now)) (J.text (J.setting job.now))) walk.old walk.new (Bucket records.now) line fault) }
+    requires accepted { HoldsAccepted (J.accepts (J.setting job.now)) walk.old.window }
+    ensures walks { IfOk result (λ fault. Walks (meaning (J.accepts (J.setting job.now)) (J.emits (J.setting job.now)) (J.joined (J.setting job.now)) (J.text (J.setting job.now))) walk.old walk.new c.now line fault) }
     ensures run { walk.new.run ≡ walk.old.run }
-    ensures accepted { All (AllAccepted (J.accepts (J.setting job.now))) walk.new.leaves.items }
+    ensures accepted { IfOk result (λ fault. fault ≡ None → HoldsAccepted (J.accepts (J.setting job.now)) walk.new.window) }
 {
-    match first_refused_record(job, records) {
-        Some(index) => Ok(Some(ScriptFault {
-            line: line + 1 + index as u64,
-            why: Why::BadRecord,
-        })),
-        None => {
-            let leaf = records.copy(alloc)?;
-            walk.leaves.push(leaf)?;
-            Ok(None)
-        }
+    match plain_apply(alloc, job, &mut walk.window, c)? {
+        None => Ok(None),
+        Some(refused) => Ok(Some(fault_of(line, refused))),
     }
+}
+
+/// The script's fault where the window refuses the command on a line.
+fn fault_of(line: u64, refused: WindowFault) -> ScriptFault
+    requires line { line < 2 ^ 62 }
+    ensures { ended_by line refused ≡ Faulty result.line result.why }
+{
+    match refused {
+        WindowFault::NotHere => fault_at(line, Why::NotHere),
+        WindowFault::TooMany => fault_at(line, Why::TooMany),
+        WindowFault::BadRecord { index } => fault_at(line + 1 + index as u64, Why::BadRecord),
+        WindowFault::WindowLarge => fault_at(line, Why::WindowLarge),
+        WindowFault::Mem => fault_at(line, Why::Mem),
+    }
+}
+
+/// A fault at a line.
+fn fault_at(line: u64, why: Why) -> ScriptFault
+    ensures { result ≡ record { line = line; why = why } }
+{
+    ScriptFault { line, why }
 }
 
 /// Answers the next run.
@@ -127,25 +144,12 @@ fn answer<J: Job>(
     m: &mut J::Meter,
 ) -> Result<Option<ScriptFault>, AllocError>
     requires run { walk.old.run < 2 ^ 63 }
-    requires accepted { All (AllAccepted (J.accepts (J.setting job.now))) walk.old.leaves.items }
+    requires accepted { HoldsAccepted (J.accepts (J.setting job.now)) walk.old.window }
     ensures walks { (line : ℕ) → IfOk result (λ fault. Walks (meaning (J.accepts (J.setting job.now)) (J.emits (J.setting job.now)) (J.joined (J.setting job.now)) (J.text (J.setting job.now))) walk.old walk.new Run line fault) }
     ensures run { walk.new.run ≤ walk.old.run + 1 }
-    ensures leaves { walk.new.leaves.items ≡ walk.old.leaves.items }
+    ensures window { walk.new.window ≡ walk.old.window }
 {
-    plain_piece(alloc, job, walk.run, &walk.leaves, &mut walk.written, m)?;
+    plain_piece(alloc, job, walk.run, &walk.window, &mut walk.written, m)?;
     walk.run += 1;
     Ok(None)
-}
-
-/// The index of the first record that the job does not accept.
-fn first_refused_record<J: Job>(job: &J, records: &Records) -> Option<usize>
-    ensures first { result ≡ first_refused (J.accepts (J.setting job.now)) records.now }
-    ensures within { IfSome result (λ index. index < 4294967295) }
-{
-    'records: for i in 0..records.len() {
-        if !job.accepts(records.get(i)) {
-            return Some(i);
-        }
-    }
-    None
 }

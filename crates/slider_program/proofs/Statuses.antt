@@ -5,13 +5,14 @@ use Rattle.definitions.specs.Outside.{Rose, Told, GainsFront}
 use Rattle.definitions.proofs.ToldBytes.{told_same, told_with}
 use Rattle.record_text.specs.declared.script_fault.Why.{Why}
 use Rattle.record_text.specs.Script.{Ending, commands}
+use Rattle.window_manager.specs.Windows.{WindowState}
 use Rattle.slider_session.specs.Output.{Meaning, output_of, ending_of}
 use Rattle.record_text.specs.Lines.{whole_lines}
 use Rattle.slider_session.specs.Serving.{AtFault, OfTaken}
 use Rattle.slider_program.specs.Words.{fault_line, end_line}
 use Rattle.slider_program.specs.Program.{Seen, Tries, Answered, most_script}
 
-module _ {V : Type 0} (j : Meaning V) (old new : Seen) (status line : ℕ) (why : Why) (served : Told old.left new.left (λ script after. Told old.held new.held (AtFault j most_script line why script after))) where
+module _ {V : Type 0} (j : Meaning V) (w : WindowState) (old new : Seen) (status line : ℕ) (why : Why) (served : Told old.left new.left (λ script after. Told old.held new.held (AtFault j w most_script line why script after))) where
   neither : {A : Type 0} (n : ℕ) → (n ≢ 3) → (n ≢ 6) → (status ≡ 3) ⊎ (status ≡ 6) → status ≡ n → A
   neither n a b (inl is) e = absurd (a (sym e ∙ is))
   neither n a b (inr is) e = absurd (b (sym e ∙ is))
@@ -20,35 +21,35 @@ module _ {V : Type 0} (j : Meaning V) (old new : Seen) (status line : ℕ) (why 
   some_status (inl is) = inr (inl is)
   some_status (inr is) = inr (inr (inr (inr is)))
 
-  pub fault_answered : (status ≡ 3) ⊎ (status ≡ 6) → (status ≡ 3 → Tries (fault_line line why) old.said new.said old.err_faults new.err_faults) → Told old.said new.said (GainsFront (fault_line line why)) → Answered j old new status
+  pub fault_answered : (status ≡ 3) ⊎ (status ≡ 6) → (status ≡ 3 → Tries (fault_line line why) old.said new.said old.err_faults new.err_faults) → Told old.said new.said (GainsFront (fault_line line why)) → Answered j w old new status
   fault_answered known tried front = record {
     done = λ e. neither 0 (λ h. cc) (λ h. cc) known e;
     fault = λ e. (line, why, served, tried e);
     read = λ e. neither 4 (λ h. cc) (λ h. cc) known e;
     write = λ e. neither 5 (λ h. cc) (λ h. cc) known e;
-    front = told_with old.left new.left _ (λ script after. Told old.held new.held (GainsFront (output_of j (commands most_script script)))) served (λ script after a b inner.
-        told_with old.held new.held (AtFault j most_script line why script after) (GainsFront (output_of j (commands most_script script))) inner (λ x y c d at. (output_of j (commands most_script script), ([], sym (append-nil (output_of j (commands most_script script)))), at.1)));
-    said = told_with old.left new.left _ (λ script after. Told old.held new.held (λ bytes more. Told old.said new.said (GainsFront (end_line (ending_of j (commands most_script script)))))) served (λ script after a b inner.
-        told_with old.held new.held (AtFault j most_script line why script after) (λ bytes more. Told old.said new.said (GainsFront (end_line (ending_of j (commands most_script script))))) inner (λ x y c d at.
+    front = told_with old.left new.left _ (λ script after. Told old.held new.held (GainsFront (output_of j w (commands most_script script)))) served (λ script after a b inner.
+        told_with old.held new.held (AtFault j w most_script line why script after) (GainsFront (output_of j w (commands most_script script))) inner (λ x y c d at. (output_of j w (commands most_script script), ([], sym (append-nil (output_of j w (commands most_script script)))), at.1)));
+    said = told_with old.left new.left _ (λ script after. Told old.held new.held (λ bytes more. Told old.said new.said (GainsFront (end_line (ending_of j w (commands most_script script)))))) served (λ script after a b inner.
+        told_with old.held new.held (AtFault j w most_script line why script after) (λ bytes more. Told old.said new.said (GainsFront (end_line (ending_of j w (commands most_script script))))) inner (λ x y c d at.
         subst (λ (e : Ending). Told old.said new.said (GainsFront (end_line e))) (sym at.0) front));
     known = some_status known;
   }
 
 -- a status with nothing said on `err`, where a front of the output was written
-module _ {V : Type 0} (j : Meaning V) (old new : Seen) (quiet : new.said ≡ old.said) where
+module _ {V : Type 0} (j : Meaning V) (w : WindowState) (old new : Seen) (quiet : new.said ≡ old.said) where
   -- the front of the output that was written where a read failed
-  of_taken : Told old.left new.left (λ script after. Told old.held new.held (OfTaken j most_script script after)) → Told old.left new.left (λ script after. Told old.held new.held (GainsFront (output_of j (commands most_script script))))
-  of_taken served = told_with old.left new.left _ (λ script after. Told old.held new.held (GainsFront (output_of j (commands most_script script)))) served (λ script after a b inner.
-      told_with old.held new.held (OfTaken j most_script script after) (GainsFront (output_of j (commands most_script script))) inner (λ x y c d at. (output_of j (commands most_script (whole_lines at.bytes)), at.front, at.written)))
+  of_taken : Told old.left new.left (λ script after. Told old.held new.held (OfTaken j w most_script script after)) → Told old.left new.left (λ script after. Told old.held new.held (GainsFront (output_of j w (commands most_script script))))
+  of_taken served = told_with old.left new.left _ (λ script after. Told old.held new.held (GainsFront (output_of j w (commands most_script script)))) served (λ script after a b inner.
+      told_with old.held new.held (OfTaken j w most_script script after) (GainsFront (output_of j w (commands most_script script))) inner (λ x y c d at. (output_of j w (commands most_script (whole_lines at.bytes)), at.front, at.written)))
 
-  module _ (front : Told old.left new.left (λ script after. Told old.held new.held (GainsFront (output_of j (commands most_script script))))) where
-    nothing_said : Told old.left new.left (λ script after. Told old.held new.held (λ bytes more. Told old.said new.said (GainsFront (end_line (ending_of j (commands most_script script))))))
-    nothing_said = told_with old.left new.left _ (λ script after. Told old.held new.held (λ bytes more. Told old.said new.said (GainsFront (end_line (ending_of j (commands most_script script)))))) front (λ script after a b inner.
-        told_with old.held new.held (GainsFront (output_of j (commands most_script script))) (λ bytes more. Told old.said new.said (GainsFront (end_line (ending_of j (commands most_script script))))) inner (λ x y c d at.
-        subst (λ (o : Option (List ℕ)). Told old.said o (GainsFront (end_line (ending_of j (commands most_script script))))) (sym quiet)
-        (told_same old.said (GainsFront (end_line (ending_of j (commands most_script script)))) (λ z. ([], (end_line (ending_of j (commands most_script script)), refl), sym (append-nil z))))))
+  module _ (front : Told old.left new.left (λ script after. Told old.held new.held (GainsFront (output_of j w (commands most_script script))))) where
+    nothing_said : Told old.left new.left (λ script after. Told old.held new.held (λ bytes more. Told old.said new.said (GainsFront (end_line (ending_of j w (commands most_script script))))))
+    nothing_said = told_with old.left new.left _ (λ script after. Told old.held new.held (λ bytes more. Told old.said new.said (GainsFront (end_line (ending_of j w (commands most_script script)))))) front (λ script after a b inner.
+        told_with old.held new.held (GainsFront (output_of j w (commands most_script script))) (λ bytes more. Told old.said new.said (GainsFront (end_line (ending_of j w (commands most_script script))))) inner (λ x y c d at.
+        subst (λ (o : Option (List ℕ)). Told old.said o (GainsFront (end_line (ending_of j w (commands most_script script))))) (sym quiet)
+        (told_same old.said (GainsFront (end_line (ending_of j w (commands most_script script)))) (λ z. ([], (end_line (ending_of j w (commands most_script script)), refl), sym (append-nil z))))))
 
-    pub write_answered : Rose old.out_faults new.out_faults → Answered j old new 5
+    pub write_answered : Rose old.out_faults new.out_faults → Answered j w old new 5
     write_answered rose = record {
       done = λ e. cc;
       fault = λ e. cc;
@@ -59,7 +60,7 @@ module _ {V : Type 0} (j : Meaning V) (old new : Seen) (quiet : new.said ≡ old
       known = inr (inr (inr (inl refl)));
     }
 
-    pub memory_answered : Answered j old new 6
+    pub memory_answered : Answered j w old new 6
     memory_answered = record {
       done = λ e. cc;
       fault = λ e. cc;
@@ -70,7 +71,7 @@ module _ {V : Type 0} (j : Meaning V) (old new : Seen) (quiet : new.said ≡ old
       known = inr (inr (inr (inr refl)));
     }
 
-  pub read_answered : Rose old.source_faults new.source_faults → Told old.left new.left (λ script after. Told old.held new.held (OfTaken j most_script script after)) → Answered j old new 4
+  pub read_answered : Rose old.source_faults new.source_faults → Told old.left new.left (λ script after. Told old.held new.held (OfTaken j w most_script script after)) → Answered j w old new 4
   read_answered rose served = record {
     done = λ e. cc;
     fault = λ e. cc;

@@ -3,6 +3,7 @@ use Rattle.std.specs.Prelude.{◌≡◌, ℕ, List, ◌++◌, Option, Some, None
 use Rattle.definitions.specs.Outside.{Rose, Told, GainsFront}
 use Rattle.record_text.specs.declared.script_fault.Why.{Why}
 use Rattle.record_text.specs.Script.{commands}
+use Rattle.window_manager.specs.Windows.{WindowState}
 use Rattle.slider_session.specs.Output.{Meaning, output_of, ending_of}
 use Rattle.slider_session.specs.Serving.{Whole, AtFault, OfTaken}
 use Rattle.slider_program.specs.declared.words.NamedJob.{NamedJob}
@@ -36,29 +37,29 @@ pub record Refused (old new : Seen) (status : ℕ) : Type 0 where
   pub tried : status ≡ 2 → Tries usage_line old.said new.said old.err_faults new.err_faults
   pub front : Told old.said new.said (GainsFront usage_line)
 
-module _ {V : Type 0} (j : Meaning V) where
-  -- the words were accepted: what each status says of the script that the source had left, of its output over the job,
-  -- and of `err`
+module _ {V : Type 0} (j : Meaning V) (w : WindowState) where
+  -- the words were accepted: what each status says of the script that the source had left, of its output over the job and
+  -- from the window on, and of `err`
   pub record Answered (old new : Seen) (status : ℕ) : Type 0 where
     -- the source was read to its end, and all was written
-    pub done : status ≡ 0 → Told old.left new.left (λ script after. Told old.held new.held (Whole j most_script script after)) × (new.said ≡ old.said)
+    pub done : status ≡ 0 → Told old.left new.left (λ script after. Told old.held new.held (Whole j w most_script script after)) × (new.said ≡ old.said)
     -- the script has a fault, and all before it was written
-    pub fault : status ≡ 3 → (line : ℕ) × (why : Why) × Told old.left new.left (λ script after. Told old.held new.held (AtFault j most_script line why script after)) × Tries (fault_line line why) old.said new.said old.err_faults new.err_faults
+    pub fault : status ≡ 3 → (line : ℕ) × (why : Why) × Told old.left new.left (λ script after. Told old.held new.held (AtFault j w most_script line why script after)) × Tries (fault_line line why) old.said new.said old.err_faults new.err_faults
     -- a read failed, and the output of the bytes taken up to their last LF was written
-    pub read : status ≡ 4 → Rose old.source_faults new.source_faults × Told old.left new.left (λ script after. Told old.held new.held (OfTaken j most_script script after)) × (new.said ≡ old.said)
+    pub read : status ≡ 4 → Rose old.source_faults new.source_faults × Told old.left new.left (λ script after. Told old.held new.held (OfTaken j w most_script script after)) × (new.said ≡ old.said)
     -- a write failed
     pub write : status ≡ 5 → Rose old.out_faults new.out_faults × (new.said ≡ old.said)
     -- whatever the status, a front of the output was written, and of the script's line on `err`
-    pub front : Told old.left new.left (λ script after. Told old.held new.held (GainsFront (output_of j (commands most_script script))))
-    pub said : Told old.left new.left (λ script after. Told old.held new.held (λ bytes more. Told old.said new.said (GainsFront (end_line (ending_of j (commands most_script script))))))
+    pub front : Told old.left new.left (λ script after. Told old.held new.held (GainsFront (output_of j w (commands most_script script))))
+    pub said : Told old.left new.left (λ script after. Told old.held new.held (λ bytes more. Told old.said new.said (GainsFront (end_line (ending_of j w (commands most_script script))))))
     -- there is no other status; 6 is want of memory
     pub known : (status ≡ 0) ⊎ (status ≡ 3) ⊎ (status ≡ 4) ⊎ (status ≡ 5) ⊎ (status ≡ 6)
 
-module _ {C I L T : Type 0} (count : Meaning C) (index : Meaning I) (latest : Meaning L) (topk : ℕ → Meaning T) where
-  -- what was answered over the job that the words name, of these four; `Refused` says what comes of words that name none
+module _ {C I L T : Type 0} (w : WindowState) (count : Meaning C) (index : Meaning I) (latest : Meaning L) (topk : ℕ → Meaning T) where
+  -- what was answered from a window on, over the job that the words name, of these four; `Refused` says what comes of words that name none
   abbrev pub AnsweredBy : Option NamedJob → Seen → Seen → ℕ → Type 0
   AnsweredBy None old new status = Unit {0}
-  AnsweredBy (Some Count) old new status = Answered count old new status
-  AnsweredBy (Some Index) old new status = Answered index old new status
-  AnsweredBy (Some Latest) old new status = Answered latest old new status
-  AnsweredBy (Some (TopK k)) old new status = Answered (topk k) old new status
+  AnsweredBy (Some Count) old new status = Answered count w old new status
+  AnsweredBy (Some Index) old new status = Answered index w old new status
+  AnsweredBy (Some Latest) old new status = Answered latest w old new status
+  AnsweredBy (Some (TopK k)) old new status = Answered (topk k) w old new status

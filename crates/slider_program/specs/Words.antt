@@ -5,6 +5,8 @@ use Rattle.definitions.specs.Numbers.{is_number, digits_value}
 use Rattle.record_text.specs.declared.script_fault.Why.{Why}
 use Rattle.record_text.specs.declared.script_fault.Why.TheVariants.{Unknown, BadNumber, BadName, ShortInput, LongLine, LongScript, NotHere, TooMany, BadRecord, WindowLarge, Read, Mem}
 use Rattle.record_text.specs.Script.{Ending, Done, Faulty}
+use Rattle.record_text.specs.declared.kind.Kind.TheVariants as Kinds
+use Rattle.window_manager.specs.Windows.{WindowState, empty_window}
 use Rattle.slider_program.specs.declared.words.NamedJob.{NamedJob}
 use Rattle.slider_program.specs.declared.words.NamedJob.TheVariants.{Count, Index, Latest, TopK}
 
@@ -40,6 +42,10 @@ job_of (job ∷ name ∷ tree ∷ shape ∷ []) =
 job_of (job ∷ name ∷ k ∷ number ∷ tree ∷ shape ∷ []) =
     if bytes_eq job (codes "--job") && bytes_eq name (codes "topk") && bytes_eq k (codes "--k") && is_coalescing tree shape then topk_of number else None
 job_of words = None
+
+-- the window that a script begins with: an empty one that only grows
+abbrev pub first_window : WindowState
+first_window = empty_window Kinds.Growing 24
 
 -- the line for words that are refused
 abbrev pub usage_line : List ℕ

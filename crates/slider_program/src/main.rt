@@ -4,6 +4,8 @@
 
 mod basic_jobs;
 #[cfg(test)]
+mod kind_tests;
+#[cfg(test)]
 mod plain_tests;
 mod program;
 #[cfg(test)]

@@ -6,6 +6,7 @@ use crate::program::run_program;
 use crate::words::line_of_fault;
 use job_laws::{CountMeter, JobSet};
 use plain_program::{PlainOutcome, plain_outcome};
+use record_text::Kind;
 use slider_io::{NoGate, SureSink, SureSource};
 use std::alloc::{AllocError, Global};
 use std::sync::Wait;
@@ -55,6 +56,8 @@ fn counts_alike<Q: Threads + Wait + Sync>(
     let plain = plain_outcome(
         alloc,
         &BasicJobs.count(),
+        Kind::Growing,
+        24,
         Vec::from_slice(alloc, script)?,
         &mut meter,
     )?;

@@ -4,14 +4,14 @@ ghost use Rattle.definitions.specs.Outside.{Told, GainsFront};
 ghost use Rattle.slider_session.specs.Output.{meaning};
 ghost use Rattle.slider_session.specs.Serving.{FitsMeters};
 ghost use Rattle.std.specs.declared.option.Option.TheVariants.{None};
-ghost use Rattle.slider_program.specs.Words.{job_of, fault_line};
+ghost use Rattle.slider_program.specs.Words.{job_of, first_window, fault_line};
 ghost use Rattle.slider_program.specs.Program.{Seen, Tries, Refused, Answered, AnsweredBy};
 
 use crate::words::{NamedJob, line_of_fault, named_job};
 use job_laws::{Job, JobSet, MeterRow};
-use record_text::ScriptFault;
+use record_text::{Kind, ScriptFault};
 use slider_io::{Gate, Sink, Source, WriteFault, put_all};
-use slider_session::{Halt, serve};
+use slider_session::{Halt, Settings, serve};
 use std::alloc::Global;
 use std::sync::Wait;
 use std::thread::Threads;
@@ -42,7 +42,7 @@ fn status_of_fault<E: Sink>(alloc: Global, err: &mut E, fault: ScriptFault) -> u
     }
 }
 
-/// Serves the script that the source has left with a job, and answers the status.
+/// Serves the script that the source has left with a job over a window that only grows, and answers the status.
 fn run_job<J: Job, S: Source, K: Sink, E: Sink>(
     alloc: Global,
     job: J,
@@ -52,12 +52,12 @@ fn run_job<J: Job, S: Source, K: Sink, E: Sink>(
     meters: &mut MeterRow<J::Meter>,
 ) -> u8
     requires meters { FitsMeters meters.old.lanes.items meters.old.parts.items }
-    ensures answered { Answered (meaning (J.accepts (J.setting job)) (J.emits (J.setting job)) (J.joined (J.setting job)) (J.text (J.setting job)))
+    ensures answered { Answered (meaning (J.accepts (J.setting job)) (J.emits (J.setting job)) (J.joined (J.setting job)) (J.text (J.setting job))) first_window
         record { left = S.left source.old; held = K.held out.old; said = E.held err.old; source_faults = S.faults source.old; out_faults = K.faults out.old; err_faults = E.faults err.old }
         record { left = S.left source.new; held = K.held out.new; said = E.held err.new; source_faults = S.faults source.new; out_faults = K.faults out.new; err_faults = E.faults err.new } result }
     ensures meters { FitsMeters meters.new.lanes.items meters.new.parts.items }
 {
-    match serve(alloc, job, source, out, meters) {
+    match serve(alloc, job, Settings::default(), Kind::Growing, source, out, meters) {
         Ok(()) => 0,
         Err(Halt::Script(fault)) => status_of_fault(alloc, err, fault),
         Err(Halt::Read) => 4,
@@ -85,7 +85,7 @@ pub fn run_program<Q: Threads + Wait + Sync, S: Source, K: Sink, E: Sink, B: Job
         record { left = S.left source.old; held = K.held out.old; said = E.held err.old; source_faults = S.faults source.old; out_faults = K.faults out.old; err_faults = E.faults err.old }
         record { left = S.left source.new; held = K.held out.new; said = E.held err.new; source_faults = S.faults source.new; out_faults = K.faults out.new; err_faults = E.faults err.new } result }
     ensures untouched { job_of (map string_bytes words.now) ≡ None → (meters.new ≡ meters.old) }
-    ensures answered { AnsweredBy
+    ensures answered { AnsweredBy first_window
         (meaning (B.Count.accepts 0) (B.Count.emits 0) (B.Count.joined 0) (B.Count.text 0))
         (meaning (B.Index.accepts 0) (B.Index.emits 0) (B.Index.joined 0) (B.Index.text 0))
         (meaning (B.Latest.accepts 0) (B.Latest.emits 0) (B.Latest.joined 0) (B.Latest.text 0))

@@ -1,3 +1,4 @@
-pub mod Walks
-pub mod Windows
+pub mod Accepted
+pub mod Tables
 pub mod Stepping
+pub mod Walks

@@ -1,53 +1,96 @@
--- Adding a bucket and answering a run are steps of the script.
-use Rattle.std.proofs.Common.{◌≡◌, ℕ, ◌+◌, List, [], ◌∷◌, ◌++◌, refl, sym, ap, ◌∙◌, subst, append-nil, append_assoc, inl, inr}
-use Rattle.std.specs.Prelude.{Option, Result, Ok, Err, IsTrue}
+-- A step is a step of the script: what it writes, and how the script goes on behind it.
+use Rattle.std.proofs.Common.{◌≡◌, ◌≢◌, ℕ, ◌+◌, ◌≤◌, List, [], ◌++◌, refl, sym, ap, ◌∙◌, subst, append-nil, append_assoc, inl, inr, arith}
+use Rattle.std.specs.Prelude.{Option, Result, Ok, Err}
 use Rattle.std.specs.declared.option.Option.TheVariants.{Some, None}
 use Rattle.definitions.specs.Outside.{Told, IsFront, GainsFront}
-use Rattle.definitions.specs.Tables.{HasGoodValues, IsGoodJoin, table_of, merged}
-use Rattle.definitions.specs.Answer.{pairs_of}
-use Rattle.definitions.proofs.ToldBytes.{told_same, told_with}
-use Rattle.record_text.specs.declared.command.Command.TheVariants.{Bucket, Run}
-use Rattle.record_text.specs.declared.script_fault.Why.{Why}
-use Rattle.record_text.specs.declared.script_fault.Why.TheVariants.{BadRecord}
-use Rattle.record_text.specs.Script.{Faulty}
-use Rattle.slider_session.specs.Window.{first_refused}
-use Rattle.slider_session.specs.Output.{Meaning, Outcome, after_bytes, on_command, piece}
-use Rattle.slider_session.specs.Serving.{Held, IsWindow, Goes, IsCut, Going, Steps, RunStands}
-use Rattle.slider_session.specs.Calls.{Adds, Answers, next_piece}
+use Rattle.definitions.proofs.ToldBytes.{told_same}
+use Rattle.record_text.specs.declared.command.Command.{Command}
+use Rattle.record_text.specs.declared.command.Command.TheVariants.{Bucket, Drop, Late, File, Remove, Edit, Load, Run}
+use Rattle.record_text.specs.declared.script_fault.ScriptFault.{ScriptFault}
+use Rattle.record_text.specs.Script.{Ending, Faulty}
+use Rattle.window_manager.specs.Windows.{WindowState, window_after, refusal_of}
+use Rattle.window_manager.specs.Slides.{Slid, slid_after}
+use Rattle.window_manager.specs.declared.fault.WindowFault.{WindowFault}
+use Rattle.slider_session.specs.Output.{Meaning, Outcome, after_bytes, ended_by, unless_refused, on_command}
+use Rattle.slider_session.specs.Calls.{Held, state_of, accepted_of, Changes, Answers, Steps, next_piece}
 use Rattle.slider_session.specs.declared.halt.Halt.{Halt}
 use Rattle.slider_session.specs.declared.halt.Halt.TheVariants as Halts
-use Rattle.slider_session.proofs.Windows.{all_accepted, records_good, window_grows, piece_is}
 
--- what a bucket does, where the search for a refused record ended so
-module _ {V : Type 0} (j : Meaning V) (good : V → Type 0) (old new : Held V) where
-  after_search : ℕ → List (List (List ℕ)) → List (List ℕ) → ℕ → Going → Option ℕ → Outcome
-  after_search i leaves records line go found = elim found [
-    | None ↦ go i (leaves ++ records ∷ [])
-    | Some index ↦ ([], Faulty (line + 1 + index) BadRecord)
-  ]
+-- how a script goes on behind a command, with the next run and the window
+abbrev pub Going : Type 0
+Going = ℕ → WindowState → Outcome
 
-  -- nothing was written
-  cut_at_once : (runs : ℕ) (leaves : List (List (List ℕ))) (line : ℕ) (before : Option (List ℕ)) (records : List (List ℕ)) → IsCut j runs leaves (Bucket records) line before before
-  cut_at_once runs leaves line before records = record {
-    gain = [];
-    written = told_same before (λ bytes more. more ≡ bytes ++ []) (λ x. sym (append-nil x));
-    front = λ go. ((on_command j (runs + 1) leaves (Bucket records) line go).0, refl);
-  }
+module _ {V : Type 0} (j : Meaning V) (old new : Held) (c : Command) (line : ℕ) (before now : Option (List ℕ)) where
+  -- a command was carried out: what was written, and how the script goes on
+  pub record Goes : Type 0 where
+    pub gain : List ℕ
+    pub written : Told before now (λ bytes more. more ≡ bytes ++ gain)
+    pub goes : (go : Going) → on_command j (old.runs + 1) (state_of old) c line go ≡ after_bytes gain (go (new.runs + 1) (state_of new))
+    pub runs : new.runs ≤ old.runs + 1
+    pub accepted : accepted_of new ≤ accepted_of old + 1
+    pub setting : new.setting ≡ old.setting
 
-  pub add_steps : IsGoodJoin good j.joined → ((r : List ℕ) → IsTrue (j.accepts r) → HasGoodValues good (j.emits r)) → (records : List (List ℕ)) (line : ℕ) (before : Option (List ℕ)) (result : Result (Unit {0}) Halt) → Adds j old new records line result → Steps j good old new (Bucket records) line before before result
-  unfolding after_search
-  add_steps laws each records line before (Ok done) a = λ leaves w. record {
-    next = leaves ++ records ∷ [];
-    gain = [];
-    window = subst (λ (h : Held V). IsWindow j good (leaves ++ records ∷ []) h.rows) (sym a.1) (window_grows j good laws leaves old.rows records (records_good j.accepts j.emits good each records (all_accepted j.accepts 0 records a.0)) w);
-    written = told_same before (λ bytes more. more ≡ bytes ++ []) (λ x. sym (append-nil x));
-    goes = λ go. ap (after_search (old.runs + 1) leaves records line go) a.0 ∙ ap (λ (h : Held V). go (h.runs + 1) (leaves ++ records ∷ [])) (sym a.1);
-  }
-  add_steps laws each records line before (Err (Halts.Script fault)) a = λ leaves w go.
-      ap (after_search (old.runs + 1) leaves records line go) a.1 ∙ (λ i. ([], Faulty (sym a.2 i) (sym a.3 i)))
-  add_steps laws each records line before (Err Halts.Read) a = absurd a
-  add_steps laws each records line before (Err Halts.Write) a = absurd a
-  add_steps laws each records line before (Err Halts.Mem) a = λ leaves w. cut_at_once old.runs leaves line before records
+  -- a command was cut short: a front of what it writes was written
+  pub record IsCut : Type 0 where
+    pub gain : List ℕ
+    pub written : Told before now (λ bytes more. more ≡ bytes ++ gain)
+    pub front : (go : Going) → IsFront gain (on_command j (old.runs + 1) (state_of old) c line go).0
+
+  -- a command was refused: the script ends there, and nothing was written
+  pub record IsRefused (fault : ScriptFault) : Type 0 where
+    pub ends : (go : Going) → on_command j (old.runs + 1) (state_of old) c line go ≡ ([], Faulty fault.line fault.why)
+    pub unwritten : now ≡ before
+
+  -- what a step comes to
+  abbrev pub ComesTo : Result (Unit {0}) Halt → Type 0
+  ComesTo (Ok done) = Goes
+  ComesTo (Err (Halts.Script fault)) = IsRefused fault
+  ComesTo (Err Halts.Read) = ⊥
+  ComesTo (Err Halts.Write) = IsCut
+  ComesTo (Err Halts.Mem) = IsCut
+
+-- nothing was written
+unwritten : (before now : Option (List ℕ)) → now ≡ before → Told before now (λ bytes more. more ≡ bytes ++ [])
+unwritten before now same = subst (λ (o : Option (List ℕ)). Told before o (λ bytes more. more ≡ bytes ++ [])) (sym same) (told_same before (λ bytes more. more ≡ bytes ++ []) (λ x. sym (append-nil x)))
+
+-- a command accepts at most one bucket more
+one_more : (w : WindowState) (c : Command) (s : Slid) → (slid_after w c s).accepted ≤ s.accepted + 1
+one_more w (Bucket records) s = omega arith
+one_more w (Drop n) s = omega arith
+one_more w (Late place more) s = omega arith
+one_more w (File name) s = omega arith
+one_more w (Remove name) s = omega arith
+one_more w (Edit at del ins) s = omega arith
+one_more w (Load records) s = omega arith
+one_more w Run s = omega arith
+
+module _ {V : Type 0} (j : Meaning V) (old new : Held) (line : ℕ) (before now : Option (List ℕ)) where
+  -- the window's command, where `on_command` is the window's
+  module _ (c : Command) (windows : (go : Going) → on_command j (old.runs + 1) (state_of old) c line go ≡ unless_refused (refusal_of j.accepts (state_of old) c) line (go (old.runs + 1) (window_after (state_of old) c))) where
+    pub change_comes : (result : Result (Unit {0}) Halt) → Changes j.accepts old new c line result → now ≡ before → ComesTo j old new c line before now result
+    change_comes (Ok done) a same = record {
+      gain = [];
+      written = unwritten before now same;
+      goes = λ go. windows go
+          ∙ ap (λ o. unless_refused o line (go (old.runs + 1) (window_after (state_of old) c))) a.0
+          ∙ (λ i. go (sym (ap (λ (h : Held). h.runs) a.2) i + 1) (sym a.1.window i));
+      runs = let same = ap (λ (h : Held). h.runs) a.2 in omega (arith, same);
+      accepted = subst (λ (s : Slid). s.accepted ≤ accepted_of old + 1) (sym a.1.slid) (one_more (state_of old) c old.window.slid);
+      setting = ap (λ (h : Held). h.setting) a.2;
+    }
+    change_comes (Err (Halts.Script fault)) a same = record {
+      ends = λ go. windows go
+          ∙ ap (λ o. unless_refused o line (go (old.runs + 1) (window_after (state_of old) c))) a.1
+          ∙ ap (λ (e : Ending). ([], e)) a.2;
+      unwritten = same;
+    }
+    change_comes (Err Halts.Read) a same = absurd a
+    change_comes (Err Halts.Write) a same = absurd a
+    change_comes (Err Halts.Mem) a same = record {
+      gain = [];
+      written = unwritten before now same;
+      front = λ go. ((on_command j (old.runs + 1) (state_of old) c line go).0, refl);
+    }
 
   -- a front of the next piece was written, as far as it is told
   gained : (all : List ℕ) (before now : Option (List ℕ)) → Told before now (GainsFront all) → (gain : List ℕ) × IsFront gain all × Told before now (λ bytes more. more ≡ bytes ++ gain)
@@ -56,32 +99,55 @@ module _ {V : Type 0} (j : Meaning V) (good : V → Type 0) (old new : Held V) w
   gained all (Some x) None t = absurd t
   gained all (Some x) (Some y) t = (t.0, t.1, t.2)
 
-  cut_in_piece : (leaves : List (List (List ℕ))) (line : ℕ) (before now : Option (List ℕ)) → IsWindow j good leaves old.rows → Told before now (GainsFront (next_piece j old new)) → IsCut j old.runs leaves Run line before now
-  cut_in_piece leaves line before now w t =
-      let cut = gained (next_piece j old new) before now t in
+  cut_in_piece : Told before now (GainsFront (next_piece j old)) → IsCut j old new Run line before now
+  cut_in_piece t =
+      let cut = gained (next_piece j old) before now t in
       record {
         gain = cut.0;
         written = cut.2;
         front = λ go. (
-          cut.1.0 ++ (go (old.runs + 1 + 1) leaves).0,
-          ap (λ (l : List ℕ). l ++ (go (old.runs + 1 + 1) leaves).0) (sym (piece_is j good (old.runs + 1) leaves old.rows w) ∙ cut.1.1) ∙ append_assoc cut.0 cut.1.0 (go (old.runs + 1 + 1) leaves).0,
+          cut.1.0 ++ (go (old.runs + 1 + 1) (state_of old)).0,
+          ap (λ (l : List ℕ). l ++ (go (old.runs + 1 + 1) (state_of old)).0) cut.1.1 ∙ append_assoc cut.0 cut.1.0 (go (old.runs + 1 + 1) (state_of old)).0,
         );
       }
 
-  pub answer_steps : (line : ℕ) (before now : Option (List ℕ)) (result : Result (Unit {0}) Halt) → Answers j old new before now result → Steps j good old new Run line before now result
-  answer_steps line before now (Ok done) a = λ leaves w. record {
-    next = leaves;
-    gain = next_piece j old new;
-    window = subst (λ (h : Held V). IsWindow j good leaves h.rows) (sym a.0) w;
+  pub answer_comes : (result : Result (Unit {0}) Halt) → Answers j old new before now result → ComesTo j old new Run line before now result
+  answer_comes (Ok done) a = record {
+    gain = next_piece j old;
     written = a.1;
-    goes = λ go. (λ i. after_bytes (sym (piece_is j good (old.runs + 1) leaves old.rows w) i) (go (old.runs + 1 + 1) leaves)) ∙ ap (λ (h : Held V). after_bytes (next_piece j old new) (go (h.runs + 1) leaves)) (sym a.0);
+    goes = λ go. ap (λ (h : Held). after_bytes (next_piece j old) (go (h.runs + 1) (state_of h))) (sym a.0);
+    runs = subst (λ (h : Held). h.runs ≤ old.runs + 1) (sym a.0) (omega arith);
+    accepted = subst (λ (h : Held). accepted_of h ≤ accepted_of old + 1) (sym a.0) (omega arith);
+    setting = ap (λ (h : Held). h.setting) a.0;
   }
-  answer_steps line before now (Err (Halts.Script fault)) a = absurd a
-  answer_steps line before now (Err Halts.Read) a = absurd a
-  answer_steps line before now (Err Halts.Write) a = λ leaves w. cut_in_piece leaves line before now w a.1
-  answer_steps line before now (Err Halts.Mem) (inl a) = λ leaves w. record {
+  answer_comes (Err (Halts.Script fault)) a = absurd a
+  answer_comes (Err Halts.Read) a = absurd a
+  answer_comes (Err Halts.Write) a = cut_in_piece a.1
+  answer_comes (Err Halts.Mem) (inl a) = record {
     gain = [];
-    written = subst (λ (o : Option (List ℕ)). Told before o (λ bytes more. more ≡ bytes ++ [])) (sym a.1) (told_same before (λ bytes more. more ≡ bytes ++ []) (λ x. sym (append-nil x)));
-    front = λ go. ((on_command j (old.runs + 1) leaves Run line go).0, refl);
+    written = unwritten before now a.1;
+    front = λ go. ((on_command j (old.runs + 1) (state_of old) Run line go).0, refl);
   }
-  answer_steps line before now (Err Halts.Mem) (inr a) = λ leaves w. cut_in_piece leaves line before now w a.1
+  answer_comes (Err Halts.Mem) (inr a) = cut_in_piece a.1
+
+-- a command other than a run is the window's
+pub not_run : {V : Type 0} (j : Meaning V) (i : ℕ) (w : WindowState) (c : Command) (line : ℕ) (go : Going) → (c ≢ Run) → on_command j i w c line go ≡ unless_refused (refusal_of j.accepts w c) line (go i (window_after w c))
+not_run j i w (Bucket records) line go other = refl
+not_run j i w (Drop n) line go other = refl
+not_run j i w (Late place more) line go other = refl
+not_run j i w (File name) line go other = refl
+not_run j i w (Remove name) line go other = refl
+not_run j i w (Edit at del ins) line go other = refl
+not_run j i w (Load records) line go other = refl
+not_run j i w Run line go other = absurd (other refl)
+
+-- what each step comes to
+pub step_comes : {V : Type 0} (j : Meaning V) (old new : Held) (c : Command) (line : ℕ) (before now : Option (List ℕ)) (result : Result (Unit {0}) Halt) → Steps j old new c line before now result → ComesTo j old new c line before now result
+step_comes j old new (Bucket records) line before now result s = change_comes j old new line before now (Bucket records) (λ go. refl) result s.0 s.1
+step_comes j old new (Drop n) line before now result s = change_comes j old new line before now (Drop n) (λ go. refl) result s.0 s.1
+step_comes j old new (Late place more) line before now result s = change_comes j old new line before now (Late place more) (λ go. refl) result s.0 s.1
+step_comes j old new (File name) line before now result s = change_comes j old new line before now (File name) (λ go. refl) result s.0 s.1
+step_comes j old new (Remove name) line before now result s = change_comes j old new line before now (Remove name) (λ go. refl) result s.0 s.1
+step_comes j old new (Edit at del ins) line before now result s = change_comes j old new line before now (Edit at del ins) (λ go. refl) result s.0 s.1
+step_comes j old new (Load records) line before now result s = change_comes j old new line before now (Load records) (λ go. refl) result s.0 s.1
+step_comes j old new Run line before now result s = answer_comes j old new line before now result s

@@ -16,11 +16,13 @@ use Rattle.record_text.specs.Reading.{Sound, Uses, NextTold, NextTaken, to_come}
 use Rattle.record_text.proofs.LineLaws.{whole_lines-used}
 use Rattle.record_text.proofs.ScriptLaws.{commands-short}
 use Rattle.record_text.proofs.ReadLaws.{uses_then}
-use Rattle.slider_session.specs.Window.{present}
+use Rattle.window_manager.specs.Windows.{WindowState}
 use Rattle.slider_session.specs.Output.{Meaning, Outcome, after_bytes, on_command, outcome_from, outcome_of, output_of, ending_of}
-use Rattle.slider_session.specs.Serving.{Held, IsWindow, Goes, IsCut, Going, Steps, Stays, Serves, Whole, AtFault, OfTaken, HaltIs}
+use Rattle.slider_session.specs.Calls.{Held, state_of}
+use Rattle.slider_session.specs.Serving.{Serves, Whole, AtFault, OfTaken, HaltIs}
 use Rattle.slider_session.specs.declared.halt.Halt.{Halt}
 use Rattle.slider_session.specs.declared.halt.Halt.TheVariants as Halts
+use Rattle.slider_session.proofs.Stepping.{Goes, IsCut, IsRefused, ComesTo}
 
 -- true is not false
 true_false : true ≡ false → ⊥
@@ -32,24 +34,22 @@ after_after a b o = ap (λ (x : List ℕ). (x, o.1)) (sym (append_assoc a b o.0)
 
 module _ {V : Type 0} (j : Meaning V) where
   -- the commands of a script, before run i over a window
-  abbrev pub walk : ℕ → List (List (List ℕ)) → Script → Outcome
-  walk i leaves script = outcome_from j i leaves script.0 script.1
+  abbrev pub walk : ℕ → WindowState → Script → Outcome
+  walk i w script = outcome_from j i w script.0 script.1
 
   -- the first command, and the walk behind it
-  pub walk_command : (i : ℕ) (leaves : List (List (List ℕ))) (c : Command) (line : ℕ) (old new : Script) → old ≡ with_command (c, line) new → walk i leaves old ≡ on_command j i leaves c line (λ next window. walk next window new)
-  walk_command i leaves c line old new is = ap (λ (s : Script). walk i leaves s) is
+  pub walk_command : (i : ℕ) (w : WindowState) (c : Command) (line : ℕ) (old new : Script) → old ≡ with_command (c, line) new → walk i w old ≡ on_command j i w c line (λ next window. walk next window new)
+  walk_command i w c line old new is = ap (λ (s : Script). walk i w s) is
 
-  -- serving stands between two commands: `leaves` is the window, `gain` was written, and `past` are the bytes used since
-  -- the reader was made as `fresh`
-  pub record Stands (good : V → Type 0) (most : ℕ) (fresh : Reading) (h : Held V) (r : Reading) (first left before now : Option (List ℕ)) : Type 0 where
-    pub leaves : List (List (List ℕ))
+  -- serving stands between two commands, from the window `w` on: `gain` was written, and `past` are the bytes used since the
+  -- reader was made as `fresh`
+  pub record Stands (w : WindowState) (most : ℕ) (fresh : Reading) (h : Held) (r : Reading) (first left before now : Option (List ℕ)) : Type 0 where
     pub gain : List ℕ
     pub past : List ℕ
-    pub window : IsWindow j good leaves h.rows
     pub written : Told before now (λ old new. new ≡ old ++ gain)
-    pub walks : Told first left (λ script after. outcome_of j (commands most script) ≡ after_bytes gain (walk (h.runs + 1) leaves (to_come r after)))
+    pub walks : Told first left (λ script after. outcome_of j w (commands most script) ≡ after_bytes gain (walk (h.runs + 1) (state_of h) (to_come r after)))
     pub used : Uses fresh r first left past
-    pub taken : r.ended ≡ false → (full : Bool) (x : List ℕ) → walk 1 [] (from_line full ACommand 1 (past ++ x)) ≡ after_bytes gain (walk (h.runs + 1) leaves (from_line full ACommand (r.line + 1) x))
+    pub taken : r.ended ≡ false → (full : Bool) (x : List ℕ) → walk 1 w (from_line full ACommand 1 (past ++ x)) ≡ after_bytes gain (walk (h.runs + 1) (state_of h) (from_line full ACommand (r.line + 1) x))
 
 -- two facts of told bytes
 told_both : (a b : Option (List ℕ)) (P Q : List ℕ → List ℕ → Type 0) → Told a b P → Told a b Q → Told a b (λ x y. P x y × Q x y)
@@ -63,52 +63,50 @@ not_before : (a b : Bool) → (a ≡ true → b ≡ true) → b ≡ false → a 
 not_before true b grows is = sym (grows refl) ∙ is
 not_before false b grows is = refl
 
-module _ {V : Type 0} (j : Meaning V) (good : V → Type 0) (most : ℕ) (fresh : Reading) (h : Held V) (r : Reading) (first left before now : Option (List ℕ)) (s : Stands j good most fresh h r first left before now) where
+module _ {V : Type 0} (j : Meaning V) (w : WindowState) (most : ℕ) (fresh : Reading) (h : Held) (r : Reading) (first left before now : Option (List ℕ)) (s : Stands j w most fresh h r first left before now) where
   -- a command was read and carried out
-  module _ (new : Held V) (next : Reading) (c : Command) (later : Option (List ℕ)) (wrote : Option (List ℕ)) where
-    pub goes_on : Told left later (λ l m. NextTold (to_come r l) (to_come next m) next.last (Ok (Some c))) → (used : List ℕ) × Uses r next left later used × NextTaken r next used (Ok (Some c)) → Goes j good h new s.leaves c next.last now wrote → Stands j good most fresh new next first later before wrote
+  module _ (new : Held) (next : Reading) (c : Command) (later : Option (List ℕ)) (wrote : Option (List ℕ)) where
+    pub goes_on : Told left later (λ l m. NextTold (to_come r l) (to_come next m) next.last (Ok (Some c))) → (used : List ℕ) × Uses r next left later used × NextTaken r next used (Ok (Some c)) → Goes j h new c next.last now wrote → Stands j w most fresh new next first later before wrote
     goes_on told took g = record {
-      leaves = g.next;
       gain = s.gain ++ g.gain;
       past = s.past ++ took.0;
-      window = g.window;
       written = told_then before now wrote (λ old new. new ≡ old ++ s.gain) (λ old new. new ≡ old ++ g.gain) (λ old new. new ≡ old ++ (s.gain ++ g.gain))
           (λ x y z p q. q ∙ ap (λ (l : List ℕ). l ++ g.gain) p ∙ append_assoc x s.gain g.gain) s.written g.written;
-      walks = told_then first left later (λ script l. outcome_of j (commands most script) ≡ after_bytes s.gain (walk j (h.runs + 1) s.leaves (to_come r l))) (λ l m. NextTold (to_come r l) (to_come next m) next.last (Ok (Some c)))
-          (λ script m. outcome_of j (commands most script) ≡ after_bytes (s.gain ++ g.gain) (walk j (new.runs + 1) g.next (to_come next m)))
-          (λ x y z p q. p ∙ ap (after_bytes s.gain) (walk_command j (h.runs + 1) s.leaves c next.last (to_come r y) (to_come next z) q ∙ g.goes (λ i w. walk j i w (to_come next z))) ∙ after_after s.gain g.gain (walk j (new.runs + 1) g.next (to_come next z)))
+      walks = told_then first left later (λ script l. outcome_of j w (commands most script) ≡ after_bytes s.gain (walk j (h.runs + 1) (state_of h) (to_come r l))) (λ l m. NextTold (to_come r l) (to_come next m) next.last (Ok (Some c)))
+          (λ script m. outcome_of j w (commands most script) ≡ after_bytes (s.gain ++ g.gain) (walk j (new.runs + 1) (state_of new) (to_come next m)))
+          (λ x y z p q. p ∙ ap (after_bytes s.gain) (walk_command j (h.runs + 1) (state_of h) c next.last (to_come r y) (to_come next z) q ∙ g.goes (λ i v. walk j i v (to_come next z))) ∙ after_after s.gain g.gain (walk j (new.runs + 1) (state_of new) (to_come next z)))
           s.walks told;
       used = uses_then fresh r next first left later s.past took.0 s.used took.1;
       taken = λ going full x.
           let was = not_before r.ended next.ended (λ e. (took.1.bytes.stays e).0) going in
-          ap (λ (b : List ℕ). walk j 1 [] (from_line full ACommand 1 b)) (append_assoc s.past took.0 x)
+          ap (λ (b : List ℕ). walk j 1 w (from_line full ACommand 1 b)) (append_assoc s.past took.0 x)
           ∙ s.taken was full (took.0 ++ x)
-          ∙ ap (after_bytes s.gain) (walk_command j (h.runs + 1) s.leaves c next.last (from_line full ACommand (r.line + 1) (took.0 ++ x)) (from_line full ACommand (next.line + 1) x) (took.2 full x (λ e. absurd (true_false (sym e ∙ going)))) ∙ g.goes (λ i w. walk j i w (from_line full ACommand (next.line + 1) x)))
-          ∙ after_after s.gain g.gain (walk j (new.runs + 1) g.next (from_line full ACommand (next.line + 1) x));
+          ∙ ap (after_bytes s.gain) (walk_command j (h.runs + 1) (state_of h) c next.last (from_line full ACommand (r.line + 1) (took.0 ++ x)) (from_line full ACommand (next.line + 1) x) (took.2 full x (λ e. absurd (true_false (sym e ∙ going)))) ∙ g.goes (λ i v. walk j i v (from_line full ACommand (next.line + 1) x)))
+          ∙ after_after s.gain g.gain (walk j (new.runs + 1) (state_of new) (from_line full ACommand (next.line + 1) x));
     }
 
   -- the walk of the script goes on as the rest does, and ends so
   module _ (later : Option (List ℕ)) where
     Ends : Ending → List ℕ → List ℕ → Type 0
-    Ends e script after = outcome_of j (commands most script) ≡ after_bytes s.gain ([], e)
+    Ends e script after = outcome_of j w (commands most script) ≡ after_bytes s.gain ([], e)
 
-    all_written : (e : Ending) (script old new : List ℕ) → outcome_of j (commands most script) ≡ after_bytes s.gain ([], e) → new ≡ old ++ s.gain → (ending_of j (commands most script) ≡ e) × (new ≡ old ++ output_of j (commands most script))
+    all_written : (e : Ending) (script old new : List ℕ) → outcome_of j w (commands most script) ≡ after_bytes s.gain ([], e) → new ≡ old ++ s.gain → (ending_of j w (commands most script) ≡ e) × (new ≡ old ++ output_of j w (commands most script))
     all_written e script old new is wrote = (ap (λ (o : Outcome). o.1) is, wrote ∙ ap (λ (l : List ℕ). old ++ l) (sym (append-nil s.gain) ∙ sym (ap (λ (o : Outcome). o.0) is)))
 
     -- the script ended
-    pub at_end : (next : Reading) → Told left later (λ l m. NextTold (to_come r l) (to_come next m) next.last (Ok None)) → (used : List ℕ) × Uses r next left later used × NextTaken r next used (Ok None) → Sound next later → Serves j most first later before now (Ok tt)
+    pub at_end : (next : Reading) → Told left later (λ l m. NextTold (to_come r l) (to_come next m) next.last (Ok None)) → (used : List ℕ) × Uses r next left later used × NextTaken r next used (Ok None) → Sound next later → Serves j w most first later before now (Ok tt)
     at_end next told took sound =
-        told_with first later _ _ (told_then first left later (λ script l. outcome_of j (commands most script) ≡ after_bytes s.gain (walk j (h.runs + 1) s.leaves (to_come r l))) (λ l m. NextTold (to_come r l) (to_come next m) next.last (Ok None)) (λ script m. outcome_of j (commands most script) ≡ after_bytes s.gain ([], Done))
-        (λ x y z p q. p ∙ ap (λ (t : Script). after_bytes s.gain (walk j (h.runs + 1) s.leaves t)) q.0) s.walks told)
-        (λ script after a b is. told_with before now (λ old new. new ≡ old ++ s.gain) (Whole j most script after) s.written (λ old new c d wrote.
+        told_with first later _ _ (told_then first left later (λ script l. outcome_of j w (commands most script) ≡ after_bytes s.gain (walk j (h.runs + 1) (state_of h) (to_come r l))) (λ l m. NextTold (to_come r l) (to_come next m) next.last (Ok None)) (λ script m. outcome_of j w (commands most script) ≡ after_bytes s.gain ([], Done))
+        (λ x y z p q. p ∙ ap (λ (t : Script). after_bytes s.gain (walk j (h.runs + 1) (state_of h) t)) q.0) s.walks told)
+        (λ script after a b is. told_with before now (λ old new. new ≡ old ++ s.gain) (Whole j w most script after) s.written (λ old new c d wrote.
         let both = all_written Done script old new is wrote in (both.0, sound.empty took.2.0 after b, both.1)))
 
     -- the script had a fault of form
-    pub at_fault : (next : Reading) (fault : ScriptFault) → (fault.why ≢ Read) → (fault.why ≢ Mem) → Told left later (λ l m. NextTold (to_come r l) (to_come next m) next.last (Err fault)) → Serves j most first later before now (Err (Halts.Script fault))
+    pub at_fault : (next : Reading) (fault : ScriptFault) → (fault.why ≢ Read) → (fault.why ≢ Mem) → Told left later (λ l m. NextTold (to_come r l) (to_come next m) next.last (Err fault)) → Serves j w most first later before now (Err (Halts.Script fault))
     at_fault next fault read mem told =
-        told_with first later _ _ (told_then first left later (λ script l. outcome_of j (commands most script) ≡ after_bytes s.gain (walk j (h.runs + 1) s.leaves (to_come r l))) (λ l m. NextTold (to_come r l) (to_come next m) next.last (Err fault)) (λ script m. outcome_of j (commands most script) ≡ after_bytes s.gain ([], Faulty fault.line fault.why))
-        (λ x y z p q. p ∙ ap (λ (t : Script). after_bytes s.gain (walk j (h.runs + 1) s.leaves t)) (the_fault (to_come r y) q.0)) s.walks told)
-        (λ script after a b is. told_with before now (λ old new. new ≡ old ++ s.gain) (AtFault j most fault.line fault.why script after) s.written (λ old new c d wrote. all_written (Faulty fault.line fault.why) script old new is wrote))
+        told_with first later _ _ (told_then first left later (λ script l. outcome_of j w (commands most script) ≡ after_bytes s.gain (walk j (h.runs + 1) (state_of h) (to_come r l))) (λ l m. NextTold (to_come r l) (to_come next m) next.last (Err fault)) (λ script m. outcome_of j w (commands most script) ≡ after_bytes s.gain ([], Faulty fault.line fault.why))
+        (λ x y z p q. p ∙ ap (λ (t : Script). after_bytes s.gain (walk j (h.runs + 1) (state_of h) t)) (the_fault (to_come r y) q.0)) s.walks told)
+        (λ script after a b is. told_with before now (λ old new. new ≡ old ++ s.gain) (AtFault j w most fault.line fault.why script after) s.written (λ old new c d wrote. all_written (Faulty fault.line fault.why) script old new is wrote))
       where
         the_fault : (t : Script) → (fault.why ≡ Mem) ⊎ (fault.why ≡ Read) ⊎ (t ≡ ([], Faulty fault.line fault.why)) → t ≡ ([], Faulty fault.line fault.why)
         the_fault t (inl is) = absurd (mem is)
@@ -116,14 +114,14 @@ module _ {V : Type 0} (j : Meaning V) (good : V → Type 0) (most : ℕ) (fresh 
         the_fault t (inr (inr is)) = is
 
     -- what was written is a front of the output
-    pub at_front : Told left later (λ l m. Unit {0}) → Told first later (λ script after. Told before now (GainsFront (output_of j (commands most script))))
+    pub at_front : Told left later (λ l m. Unit {0}) → Told first later (λ script after. Told before now (GainsFront (output_of j w (commands most script))))
     at_front told =
-        told_with first later _ _ (told_then first left later (λ script l. outcome_of j (commands most script) ≡ after_bytes s.gain (walk j (h.runs + 1) s.leaves (to_come r l))) (λ l m. Unit {0}) (λ script m. IsFront s.gain (output_of j (commands most script)))
-        (λ x y z p q. ((walk j (h.runs + 1) s.leaves (to_come r y)).0, ap (λ (o : Outcome). o.0) p)) s.walks told)
-        (λ script after a b front. told_with before now (λ old new. new ≡ old ++ s.gain) (GainsFront (output_of j (commands most script))) s.written (λ old new c d wrote. (s.gain, front, wrote)))
+        told_with first later _ _ (told_then first left later (λ script l. outcome_of j w (commands most script) ≡ after_bytes s.gain (walk j (h.runs + 1) (state_of h) (to_come r l))) (λ l m. Unit {0}) (λ script m. IsFront s.gain (output_of j w (commands most script)))
+        (λ x y z p q. ((walk j (h.runs + 1) (state_of h) (to_come r y)).0, ap (λ (o : Outcome). o.0) p)) s.walks told)
+        (λ script after a b front. told_with before now (λ old new. new ≡ old ++ s.gain) (GainsFront (output_of j w (commands most script))) s.written (λ old new c d wrote. (s.gain, front, wrote)))
 
     -- the source failed
-    pub at_read : (fresh.ahead ≡ []) → (fresh.room ≡ most) → (fresh.ended ≡ false) → (next : Reading) (fault : ScriptFault) → fault.why ≡ Read → (used : List ℕ) × Uses r next left later used × NextTaken r next used (Err fault) → Serves j most first later before now (Err Halts.Read)
+    pub at_read : (fresh.ahead ≡ []) → (fresh.room ≡ most) → (fresh.ended ≡ false) → (next : Reading) (fault : ScriptFault) → fault.why ≡ Read → (used : List ℕ) × Uses r next left later used × NextTaken r next used (Err fault) → Serves j w most first later before now (Err Halts.Read)
     unfolding outcome_of
     at_read none room going next fault read took =
         let past = s.past ++ took.0 in
@@ -132,21 +130,21 @@ module _ {V : Type 0} (j : Meaning V) (good : V → Type 0) (most : ℕ) (fresh 
         let ends : EndsLine past = all.bytes.ends why.0 in
         let was = not_before r.ended next.ended (λ e. (took.1.bytes.stays e).0) why.0 in
         let short : length past < most = omega (arith, all.count, room, why.1, ap (λ (l : List ℕ). length l) none) in
-        let out : (walk j 1 [] (commands most past)).0 ≡ s.gain =
-        ap (λ (t : Script). (walk j 1 [] t).0) (commands-short most past short)
+        let out : (walk j 1 w (commands most past)).0 ≡ s.gain =
+        ap (λ (t : Script). (walk j 1 w t).0) (commands-short most past short)
         ∙ ap (λ (o : Outcome). o.0) (s.taken was false took.0)
         ∙ ap (λ (l : List ℕ). s.gain ++ l) (nothing (from_line false ACommand (r.line + 1) took.0) why.3)
         ∙ append-nil s.gain in
-        let front : Told first later (λ script after. IsFront s.gain (output_of j (commands most script))) =
-        told_then first left later (λ script l. outcome_of j (commands most script) ≡ after_bytes s.gain (walk j (h.runs + 1) s.leaves (to_come r l))) (λ l m. r.ahead ++ l ≡ took.0 ++ (next.ahead ++ m)) (λ script m. IsFront s.gain (output_of j (commands most script)))
-        (λ x y z p q. ((walk j (h.runs + 1) s.leaves (to_come r y)).0, ap (λ (o : Outcome). o.0) p)) s.walks took.1.bytes.bytes in
-        let whole : output_of j (commands most (whole_lines (past ++ next.ahead))) ≡ s.gain = ap (λ (l : List ℕ). output_of j (commands most l)) (whole_lines-used past next.ahead ends why.2) ∙ out in
-        told_with first later _ _ (told_both first later (λ script after. fresh.ahead ++ script ≡ past ++ (next.ahead ++ after)) (λ script after. IsFront s.gain (output_of j (commands most script))) all.bytes.bytes front)
-        (λ script after a b both. told_with before now (λ old new. new ≡ old ++ s.gain) (OfTaken j most script after) s.written (λ old new c d wrote. record {
+        let front : Told first later (λ script after. IsFront s.gain (output_of j w (commands most script))) =
+        told_then first left later (λ script l. outcome_of j w (commands most script) ≡ after_bytes s.gain (walk j (h.runs + 1) (state_of h) (to_come r l))) (λ l m. r.ahead ++ l ≡ took.0 ++ (next.ahead ++ m)) (λ script m. IsFront s.gain (output_of j w (commands most script)))
+        (λ x y z p q. ((walk j (h.runs + 1) (state_of h) (to_come r y)).0, ap (λ (o : Outcome). o.0) p)) s.walks took.1.bytes.bytes in
+        let whole : output_of j w (commands most (whole_lines (past ++ next.ahead))) ≡ s.gain = ap (λ (l : List ℕ). output_of j w (commands most l)) (whole_lines-used past next.ahead ends why.2) ∙ out in
+        told_with first later _ _ (told_both first later (λ script after. fresh.ahead ++ script ≡ past ++ (next.ahead ++ after)) (λ script after. IsFront s.gain (output_of j w (commands most script))) all.bytes.bytes front)
+        (λ script after a b both. told_with before now (λ old new. new ≡ old ++ s.gain) (OfTaken j w most script after) s.written (λ old new c d wrote. record {
           bytes = past ++ next.ahead;
           taken = sym (ap (λ (l : List ℕ). l ++ script) none) ∙ both.0 ∙ sym (append_assoc past next.ahead after);
           written = wrote ∙ ap (λ (l : List ℕ). old ++ l) (sym whole);
-          front = subst (λ (l : List ℕ). IsFront l (output_of j (commands most script))) (sym whole) both.1;
+          front = subst (λ (l : List ℕ). IsFront l (output_of j w (commands most script))) (sym whole) both.1;
         }))
       where
         not_mem : Mem ≡ Read → ⊥
@@ -157,66 +155,64 @@ module _ {V : Type 0} (j : Meaning V) (good : V → Type 0) (most : ℕ) (fresh 
         the_read (inr (inl is)) = (is.1, is.2, is.3, is.4)
         the_read (inr (inr is)) = absurd (is.0 read)
 
-        nothing : (t : Script) → t.0 ≡ [] → (walk j (h.runs + 1) s.leaves t).0 ≡ []
-        nothing t is = ap (λ (cs : List (Command × ℕ)). (outcome_from j (h.runs + 1) s.leaves cs t.1).0) is
+        nothing : (t : Script) → t.0 ≡ [] → (walk j (h.runs + 1) (state_of h) t).0 ≡ []
+        nothing t is = ap (λ (cs : List (Command × ℕ)). (outcome_from j (h.runs + 1) (state_of h) cs t.1).0) is
 
   -- a command was read that the window refuses, or that was cut short
-  module _ (new : Held V) (next : Reading) (c : Command) (later : Option (List ℕ)) (wrote : Option (List ℕ)) (told : Told left later (λ l m. NextTold (to_come r l) (to_come next m) next.last (Ok (Some c)))) where
-    reached : Told first later (λ script m. outcome_of j (commands most script) ≡ after_bytes s.gain (on_command j (h.runs + 1) s.leaves c next.last (λ i w. walk j i w (to_come next m))))
-    reached = told_then first left later (λ script l. outcome_of j (commands most script) ≡ after_bytes s.gain (walk j (h.runs + 1) s.leaves (to_come r l))) (λ l m. NextTold (to_come r l) (to_come next m) next.last (Ok (Some c)))
-        (λ script m. outcome_of j (commands most script) ≡ after_bytes s.gain (on_command j (h.runs + 1) s.leaves c next.last (λ i w. walk j i w (to_come next m))))
-        (λ x y z p q. p ∙ ap (after_bytes s.gain) (walk_command j (h.runs + 1) s.leaves c next.last (to_come r y) (to_come next z) q)) s.walks told
+  module _ (new : Held) (next : Reading) (c : Command) (later : Option (List ℕ)) (wrote : Option (List ℕ)) (told : Told left later (λ l m. NextTold (to_come r l) (to_come next m) next.last (Ok (Some c)))) where
+    reached : Told first later (λ script m. outcome_of j w (commands most script) ≡ after_bytes s.gain (on_command j (h.runs + 1) (state_of h) c next.last (λ i v. walk j i v (to_come next m))))
+    reached = told_then first left later (λ script l. outcome_of j w (commands most script) ≡ after_bytes s.gain (walk j (h.runs + 1) (state_of h) (to_come r l))) (λ l m. NextTold (to_come r l) (to_come next m) next.last (Ok (Some c)))
+        (λ script m. outcome_of j w (commands most script) ≡ after_bytes s.gain (on_command j (h.runs + 1) (state_of h) c next.last (λ i v. walk j i v (to_come next m))))
+        (λ x y z p q. p ∙ ap (after_bytes s.gain) (walk_command j (h.runs + 1) (state_of h) c next.last (to_come r y) (to_come next z) q)) s.walks told
 
     -- the window refuses it
-    pub at_refusal : (fault : ScriptFault) → Steps j good h new c next.last now wrote (Err (Halts.Script fault)) → wrote ≡ now → Serves j most first later before wrote (Err (Halts.Script fault))
-    at_refusal fault steps same =
-        told_with first later _ _ reached (λ script after a b is. subst (λ (o : Option (List ℕ)). Told before o (AtFault j most fault.line fault.why script after)) (sym same)
-        (told_with before now (λ old new. new ≡ old ++ s.gain) (AtFault j most fault.line fault.why script after) s.written (λ old new c d wrote.
-        all_written later (Faulty fault.line fault.why) script old new (is ∙ ap (after_bytes s.gain) (steps s.leaves s.window (λ i w. walk j i w (to_come next after)))) wrote)))
+    pub at_refusal : (fault : ScriptFault) → IsRefused j h new c next.last now wrote fault → Serves j w most first later before wrote (Err (Halts.Script fault))
+    at_refusal fault is_refused =
+        told_with first later _ _ reached (λ script after a b is. subst (λ (o : Option (List ℕ)). Told before o (AtFault j w most fault.line fault.why script after)) (sym is_refused.unwritten)
+        (told_with before now (λ old new. new ≡ old ++ s.gain) (AtFault j w most fault.line fault.why script after) s.written (λ old new c d wrote.
+        all_written later (Faulty fault.line fault.why) script old new (is ∙ ap (after_bytes s.gain) (is_refused.ends (λ i v. walk j i v (to_come next after)))) wrote)))
 
     -- it was cut short
-    pub at_cut : IsCut j h.runs s.leaves c next.last now wrote → Told first later (λ script after. Told before wrote (GainsFront (output_of j (commands most script))))
+    pub at_cut : IsCut j h new c next.last now wrote → Told first later (λ script after. Told before wrote (GainsFront (output_of j w (commands most script))))
     at_cut cut =
         told_with first later _ _ reached (λ script after a b is.
-        let front = cut.front (λ i w. walk j i w (to_come next after)) in
-        told_then before now wrote (λ old new. new ≡ old ++ s.gain) (λ old new. new ≡ old ++ cut.gain) (GainsFront (output_of j (commands most script)))
+        let front = cut.front (λ i v. walk j i v (to_come next after)) in
+        told_then before now wrote (λ old new. new ≡ old ++ s.gain) (λ old new. new ≡ old ++ cut.gain) (GainsFront (output_of j w (commands most script)))
         (λ x y z p q. (s.gain ++ cut.gain, (front.0, ap (λ (o : Outcome). o.0) is ∙ ap (λ (l : List ℕ). s.gain ++ l) front.1 ∙ sym (append_assoc s.gain cut.gain front.0)), q ∙ ap (λ (l : List ℕ). l ++ cut.gain) p ∙ append_assoc x s.gain cut.gain))
         s.written cut.written)
 
 -- serving begins
-module _ {V : Type 0} (j : Meaning V) (good : V → Type 0) (most : ℕ) (fresh : Reading) (h : Held V) (left before : Option (List ℕ)) where
-  pub begins : h.runs ≡ 0 → IsWindow j good [] h.rows → (fresh.line ≡ 0) → ((script : List ℕ) → to_come fresh script ≡ commands most script) → Uses fresh fresh left left [] → Stands j good most fresh h fresh left left before before
+module _ {V : Type 0} (j : Meaning V) (w : WindowState) (most : ℕ) (fresh : Reading) (h : Held) (left before : Option (List ℕ)) where
+  pub begins : h.runs ≡ 0 → (state_of h) ≡ w → (fresh.line ≡ 0) → ((script : List ℕ) → to_come fresh script ≡ commands most script) → Uses fresh fresh left left [] → Stands j w most fresh h fresh left left before before
   unfolding outcome_of
   begins zero window line all none = record {
-    leaves = [];
     gain = [];
     past = [];
-    window = window;
     written = told_same before (λ old new. new ≡ old ++ []) (λ x. sym (append-nil x));
-    walks = told_same left (λ script after. outcome_of j (commands most script) ≡ after_bytes [] (walk j (h.runs + 1) [] (to_come fresh after)))
-        (λ x. λ i. walk j (sym (ap (λ (n : ℕ). n + 1) zero) i) [] (sym (all x) i));
+    walks = told_same left (λ script after. outcome_of j w (commands most script) ≡ after_bytes [] (walk j (h.runs + 1) (state_of h) (to_come fresh after)))
+        (λ x. λ i. walk j (sym (ap (λ (n : ℕ). n + 1) zero) i) (sym window i) (sym (all x) i));
     used = none;
-    taken = λ going full x. λ i. walk j (sym (ap (λ (n : ℕ). n + 1) zero) i) [] (from_line full ACommand (sym (ap (λ (n : ℕ). n + 1) line) i) x);
+    taken = λ going full x. λ i. walk j (sym (ap (λ (n : ℕ). n + 1) zero) i) (sym window i) (from_line full ACommand (sym (ap (λ (n : ℕ). n + 1) line) i) x);
   }
 
 -- serving did not begin
-pub nothing_yet : {V : Type 0} (j : Meaning V) (most : ℕ) (left before : Option (List ℕ)) → Serves j most left left before before (Err Halts.Mem)
-nothing_yet j most left before =
-    told_same left (λ script after. Told before before (GainsFront (output_of j (commands most script)))) (λ script.
-    told_same before (GainsFront (output_of j (commands most script))) (λ x. ([], (output_of j (commands most script), refl), sym (append-nil x))))
+pub nothing_yet : {V : Type 0} (j : Meaning V) (w : WindowState) (most : ℕ) (left before : Option (List ℕ)) → Serves j w most left left before before (Err Halts.Mem)
+nothing_yet j w most left before =
+    told_same left (λ script after. Told before before (GainsFront (output_of j w (commands most script)))) (λ script.
+    told_same before (GainsFront (output_of j w (commands most script))) (λ x. ([], (output_of j w (commands most script), refl), sym (append-nil x))))
 
-module _ {V : Type 0} (j : Meaning V) (good : V → Type 0) (most : ℕ) (fresh : Reading) (h : Held V) (r : Reading) (first left before now : Option (List ℕ)) (s : Stands j good most fresh h r first left before now) (next : Reading) (later : Option (List ℕ)) where
+module _ {V : Type 0} (j : Meaning V) (w : WindowState) (most : ℕ) (fresh : Reading) (h : Held) (r : Reading) (first left before now : Option (List ℕ)) (s : Stands j w most fresh h r first left before now) (next : Reading) (later : Option (List ℕ)) where
   -- the reader stopped with a fault
-  pub at_stop : (fresh.ahead ≡ []) → (fresh.room ≡ most) → (fresh.ended ≡ false) → (fault : ScriptFault) (halt : Halt) → HaltIs fault halt → Told left later (λ l m. NextTold (to_come r l) (to_come next m) next.last (Err fault)) → (used : List ℕ) × Uses r next left later used × NextTaken r next used (Err fault) → Serves j most first later before now (Err halt)
+  pub at_stop : (fresh.ahead ≡ []) → (fresh.room ≡ most) → (fresh.ended ≡ false) → (fault : ScriptFault) (halt : Halt) → HaltIs fault halt → Told left later (λ l m. NextTold (to_come r l) (to_come next m) next.last (Err fault)) → (used : List ℕ) × Uses r next left later used × NextTaken r next used (Err fault) → Serves j w most first later before now (Err halt)
   at_stop none room open' fault (Halts.Script f) is told took =
-      subst (λ (x : ScriptFault). Serves j most first later before now (Err (Halts.Script x))) (sym is.0) (at_fault j good most fresh h r first left before now s later next fault is.1 is.2 told)
-  at_stop none room open' fault Halts.Read is told took = at_read j good most fresh h r first left before now s later none room open' next fault is took
+      subst (λ (x : ScriptFault). Serves j w most first later before now (Err (Halts.Script x))) (sym is.0) (at_fault j w most fresh h r first left before now s later next fault is.1 is.2 told)
+  at_stop none room open' fault Halts.Read is told took = at_read j w most fresh h r first left before now s later none room open' next fault is took
   at_stop none room open' fault Halts.Write is told took = absurd is
-  at_stop none room open' fault Halts.Mem is told took = at_front j good most fresh h r first left before now s later (told_with left later _ (λ l m. Unit {0}) told (λ x y a b p. tt))
+  at_stop none room open' fault Halts.Mem is told took = at_front j w most fresh h r first left before now s later (told_with left later _ (λ l m. Unit {0}) told (λ x y a b p. tt))
 
   -- a step stopped
-  pub at_halt : (new : Held V) (c : Command) (wrote : Option (List ℕ)) (halt : Halt) → Told left later (λ l m. NextTold (to_come r l) (to_come next m) next.last (Ok (Some c))) → Steps j good h new c next.last now wrote (Err halt) → Stays h new now wrote (Err halt) → Serves j most first later before wrote (Err halt)
-  at_halt new c wrote (Halts.Script fault) told steps stays = at_refusal j good most fresh h r first left before now s new next c later wrote told fault steps stays.1
-  at_halt new c wrote Halts.Read told steps stays = absurd steps
-  at_halt new c wrote Halts.Write told steps stays = at_cut j good most fresh h r first left before now s new next c later wrote told (steps s.leaves s.window)
-  at_halt new c wrote Halts.Mem told steps stays = at_cut j good most fresh h r first left before now s new next c later wrote told (steps s.leaves s.window)
+  pub at_halt : (new : Held) (c : Command) (wrote : Option (List ℕ)) (halt : Halt) → Told left later (λ l m. NextTold (to_come r l) (to_come next m) next.last (Ok (Some c))) → ComesTo j h new c next.last now wrote (Err halt) → Serves j w most first later before wrote (Err halt)
+  at_halt new c wrote (Halts.Script fault) told comes = at_refusal j w most fresh h r first left before now s new next c later wrote told fault comes
+  at_halt new c wrote Halts.Read told comes = absurd comes
+  at_halt new c wrote Halts.Write told comes = at_cut j w most fresh h r first left before now s new next c later wrote told comes
+  at_halt new c wrote Halts.Mem told comes = at_cut j w most fresh h r first left before now s new next c later wrote told comes

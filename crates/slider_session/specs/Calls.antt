@@ -1,33 +1,61 @@
--- What the two parts of a step promise: adding a bucket, and answering a run.
-use Rattle.std.specs.Prelude.{◌≡◌, ℕ, ◌+◌, List, ◌++◌, length, Option, Result, Ok, Err, ◌⊎◌}
+-- What the two kinds of steps promise: a command that the window carries out or refuses, and a run.
+use Rattle.std.specs.Prelude.{◌≡◌, ℕ, ◌+◌, Bool, List, [], ◌++◌, Option, Result, Ok, Err, ◌⊎◌}
 use Rattle.std.specs.declared.option.Option.TheVariants.{Some, None}
 use Rattle.definitions.specs.Outside.{Told, GainsFront}
-use Rattle.definitions.specs.Tables.{table_of, merged}
-use Rattle.definitions.specs.Answer.{pairs_of, lines_of}
-use Rattle.record_text.specs.declared.script_fault.Why.TheVariants.{BadRecord}
-use Rattle.slider_session.specs.Window.{first_refused}
-use Rattle.slider_session.specs.Output.{Meaning, header}
-use Rattle.slider_session.specs.Serving.{Held, RunStands}
+use Rattle.record_text.specs.declared.command.Command.{Command}
+use Rattle.record_text.specs.declared.command.Command.TheVariants.{Run}
+use Rattle.record_text.specs.Script.{Faulty}
+use Rattle.window_manager.specs.Windows.{WindowState, refusal_of}
+use Rattle.window_manager.specs.Views.{WindowView, IsDone, view_anew}
+use Rattle.window_manager.specs.declared.fault.WindowFault.{WindowFault}
+use Rattle.slider_session.specs.declared.settings.Settings.{Settings}
 use Rattle.slider_session.specs.declared.halt.Halt.{Halt}
 use Rattle.slider_session.specs.declared.halt.Halt.TheVariants as Halts
+use Rattle.slider_session.specs.Output.{Meaning, ended_by, piece}
 
-module _ {V : Type 0} (j : Meaning V) (old new : Held V) where
-  -- a bucket was added, or a record of it refused
-  abbrev pub Adds : List (List ℕ) → ℕ → Result (Unit {0}) Halt → Type 0
-  Adds records line (Ok done) = (first_refused j.accepts records ≡ None) × (new ≡ record old { rows = merged j.joined old.rows (table_of j.joined (pairs_of j.emits records)) })
-  Adds records line (Err (Halts.Script fault)) = (index : ℕ) × (first_refused j.accepts records ≡ Some index) × (fault.line ≡ line + 1 + index) × (fault.why ≡ BadRecord) × (new ≡ old)
-  Adds records line (Err Halts.Read) = ⊥
-  Adds records line (Err Halts.Write) = ⊥
-  Adds records line (Err Halts.Mem) = new ≡ old
+-- what a session holds: its job's setting, its settings, how many runs it has answered, and its window
+pub record Held : Type 0 where
+  pub setting : ℕ
+  pub settings : Settings
+  pub runs : ℕ
+  pub window : WindowView
 
+-- the window that a session holds
+abbrev pub state_of : Held → WindowState
+state_of h = h.window.window
+
+-- how many buckets it accepted
+abbrev pub accepted_of : Held → ℕ
+accepted_of h = h.window.slid.accepted
+
+-- a command of the window was carried out, or refused on its line; nothing else was touched, and want of memory comes
+-- only where nothing refuses it
+abbrev pub Changes : (List ℕ → Bool) → Held → Held → Command → ℕ → Result (Unit {0}) Halt → Type 0
+Changes accepts old new c line (Ok done) = (refusal_of accepts (state_of old) c ≡ None) × IsDone old.window new.window c × (new ≡ record old { window = new.window })
+Changes accepts old new c line (Err (Halts.Script fault)) = (refused : WindowFault) × (refusal_of accepts (state_of old) c ≡ Some refused) × (ended_by line refused ≡ Faulty fault.line fault.why) × (new ≡ old)
+Changes accepts old new c line (Err Halts.Read) = ⊥
+Changes accepts old new c line (Err Halts.Write) = ⊥
+Changes accepts old new c line (Err Halts.Mem) = (refusal_of accepts (state_of old) c ≡ None) × (new ≡ old)
+
+-- a run more was answered over the same window
+abbrev pub RunStands : Held → Held → Type 0
+RunStands old new = new ≡ record old { runs = old.runs + 1; window = view_anew old.window }
+
+module _ {V : Type 0} (j : Meaning V) where
   -- what the next run writes
-  abbrev pub next_piece : List ℕ
-  next_piece = header (old.runs + 1) (length old.rows) ++ lines_of j.text old.rows
+  abbrev pub next_piece : Held → List ℕ
+  next_piece h = piece j (h.runs + 1) (state_of h)
 
-  -- a run was answered, or a front of its piece was written
-  abbrev pub Answers : Option (List ℕ) → Option (List ℕ) → Result (Unit {0}) Halt → Type 0
-  Answers before now (Ok done) = RunStands old new × Told before now (λ bytes more. more ≡ bytes ++ next_piece)
-  Answers before now (Err (Halts.Script fault)) = ⊥
-  Answers before now (Err Halts.Read) = ⊥
-  Answers before now (Err Halts.Write) = RunStands old new × Told before now (GainsFront next_piece)
-  Answers before now (Err Halts.Mem) = ((new ≡ old) × (now ≡ before)) ⊎ (RunStands old new × Told before now (GainsFront next_piece))
+  -- a run was answered; where a write failed the run stands, and a front of its piece was written; where memory ran out
+  -- it stands so too, or all is as before
+  abbrev pub Answers : Held → Held → Option (List ℕ) → Option (List ℕ) → Result (Unit {0}) Halt → Type 0
+  Answers old new before now (Ok done) = RunStands old new × Told before now (λ bytes more. more ≡ bytes ++ next_piece old)
+  Answers old new before now (Err (Halts.Script fault)) = ⊥
+  Answers old new before now (Err Halts.Read) = ⊥
+  Answers old new before now (Err Halts.Write) = RunStands old new × Told before now (GainsFront (next_piece old))
+  Answers old new before now (Err Halts.Mem) = ((new ≡ old) × (now ≡ before)) ⊎ (RunStands old new × Told before now (GainsFront (next_piece old)))
+
+  -- one command on a line: a run is answered, and any other command is the window's and writes nothing
+  abbrev pub Steps : Held → Held → Command → ℕ → Option (List ℕ) → Option (List ℕ) → Result (Unit {0}) Halt → Type 0
+  Steps old new Run line before now result = Answers old new before now result
+  Steps old new c line before now result = Changes j.accepts old new c line result × (now ≡ before)

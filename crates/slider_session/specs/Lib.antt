@@ -1,4 +1,5 @@
-pub mod Window
 pub mod Output
-pub mod Serving
+pub mod Settings
+pub mod Accepted
 pub mod Calls
+pub mod Serving

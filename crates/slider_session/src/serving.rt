@@ -1,12 +1,14 @@
 // Serves a whole script.
 ghost use Rattle.std.specs.Prelude.{◌≡◌, ◌<◌, ◌≤◌, ◌+◌, ◌-◌, ◌^◌, ◌++◌, [], ℕ, List, length, IsErrOf, None};
 ghost use Rattle.definitions.specs.Outside.{Rose};
+ghost use Rattle.window_manager.specs.Windows.{empty_window};
 ghost use Rattle.slider_session.specs.Output.{meaning};
+ghost use Rattle.slider_session.specs.Settings.{AreWithin};
 ghost use Rattle.slider_session.specs.Serving.{Serves, IsOfScript, FitsMeters, HaltIs};
 
-use crate::{Halt, Session};
+use crate::{Halt, Session, Settings};
 use job_laws::{Job, MeterRow};
-use record_text::{ScriptFault, ScriptReader, Why};
+use record_text::{Kind, ScriptFault, ScriptReader, Why};
 use slider_io::{Sink, Source};
 use std::alloc::Global;
 
@@ -24,18 +26,22 @@ fn halt_of(fault: ScriptFault) -> Halt
     }
 }
 
-/// Serves the script that a source has left: each command is carried out before the next one is read, so each run is
+/// Serves the script that a source has left, from the empty window of a kind on: each command is carried out before the next one is read, so each run is
 /// answered before the reader takes more than its line. It stops at the script's first fault, at a failure of the source
 /// or of the sink, or for want of memory.
 pub fn serve<J: Job, S: Source, K: Sink>(
     alloc: Global,
     job: J,
+    settings: Settings,
+    kind: Kind,
     source: &mut S,
     out: &mut K,
     meters: &mut MeterRow<J::Meter>,
 ) -> Result<(), Halt>
+    requires settings { AreWithin settings }
+    requires parts { settings.parts ≡ 1 }
     requires meters { FitsMeters meters.old.lanes.items meters.old.parts.items }
-    ensures serves { Serves (meaning (J.accepts (J.setting job)) (J.emits (J.setting job)) (J.joined (J.setting job)) (J.text (J.setting job))) MOST_SCRIPT (S.left source.old) (S.left source.new) (K.held out.old) (K.held out.new) result }
+    ensures serves { Serves (meaning (J.accepts (J.setting job)) (J.emits (J.setting job)) (J.joined (J.setting job)) (J.text (J.setting job))) (empty_window kind settings.places) MOST_SCRIPT (S.left source.old) (S.left source.new) (K.held out.old) (K.held out.new) result }
     ensures script { IsOfScript result }
     ensures source_later { S.faults source.old ≤ S.faults source.new }
     ensures later { K.faults out.old ≤ K.faults out.new }
@@ -43,7 +49,7 @@ pub fn serve<J: Job, S: Source, K: Sink>(
     ensures write { IsErrOf result Halt.Write → Rose (K.faults out.old) (K.faults out.new) }
     ensures meters { FitsMeters meters.new.lanes.items meters.new.parts.items }
 {
-    let mut session = match Session::new(alloc, job) {
+    let mut session = match Session::new(alloc, job, settings, kind) {
         Ok(session) => session,
         Err(_) => return Err(Halt::Mem),
     };

@@ -1,58 +1,67 @@
 // One script's window and its runs.
-ghost use Rattle.std.specs.Prelude.{◌≡◌, ◌<◌, ◌≤◌, ◌+◌, ◌^◌, ◌++◌, [], ℕ, List, length, IfOk, IsErrOf};
+ghost use Rattle.std.specs.Prelude.{◌≡◌, ◌<◌, ◌≤◌, ◌^◌, ℕ, List, IfOk, IsErrOf};
 ghost use Rattle.definitions.specs.Outside.{Rose};
-ghost use Rattle.definitions.specs.Tables.{table_of};
-ghost use Rattle.definitions.specs.Answer.{pairs_of, lines_of};
-ghost use Rattle.slider_session.specs.Window.{AllAccepted};
-ghost use Rattle.slider_session.specs.Output.{Meaning, meaning, header};
-ghost use Rattle.slider_session.specs.Serving.{Held, Steps, Stays, IsOfScript, FitsMeters};
-ghost use Rattle.slider_session.specs.Calls.{Adds, Answers};
+ghost use Rattle.record_text.specs.declared.command.Command.TheVariants.{Run};
+ghost use Rattle.window_manager.specs.Views.{no_leaves};
+ghost use Rattle.slider_session.specs.Output.{meaning};
+ghost use Rattle.slider_session.specs.Settings.{AreWithin};
+ghost use Rattle.slider_session.specs.Calls.{Held, accepted_of, Changes, Answers, Steps};
+ghost use Rattle.slider_session.specs.Serving.{IsOfScript, FitsMeters, RefusalIs};
 
-use crate::Halt;
-use crate::records::first_refused_of;
+use crate::answering::piece_of;
+use crate::{Halt, Settings};
 use job_laws::{Job, MeterRow};
-use record_text::{Command, Records, ScriptFault, Why};
-use sheets::{Sheet, map_sheets, merge_sheets};
+use record_text::{Command, Kind, ScriptFault, Why};
 use slider_io::{Sink, WriteFault, put_all};
 use std::alloc::{AllocError, Global};
 use std::marker::Model;
+use window_manager::{Window, WindowFault};
 
-/// The window of one script, as the table of its records, and how many runs were answered. A bucket costs its own
-/// records and one merge with the window's table; a run costs one pass over the table.
+/// The window of one script, and how many runs were answered. A command of the window costs what the window takes for it;
+/// a run maps all records of the window and merges its leaves, each time anew.
 #[derive(Drop)]
 pub struct Session<J: Job> {
     job: J,
-    window: Sheet<J>,
+    settings: Settings,
+    window: Window,
     runs: u64,
 }
 
 impl<J: Job> Model for Session<J> {
-    ghost use Rattle.std.specs.Prelude.{◌≡◌};
-    ghost use Rattle.slider_session.specs.Serving.{Held};
+    ghost use Rattle.slider_session.specs.Accepted.{HoldsAccepted};
+    ghost use Rattle.slider_session.specs.Calls.{Held};
 
-    ghost Value = { Held J.Val };
+    ghost Value = { Held };
 
-    ghost view = { λ s. record { setting = J.setting s.job; runs = s.runs; rows = s.window.entries } };
+    ghost view = { λ s. record { setting = J.setting s.job; settings = s.settings; runs = s.runs; window = s.window } };
 
-    ghost invariant = { λ s. s.window.setting ≡ J.setting s.job };
+    ghost invariant = { λ s. HoldsAccepted (J.accepts (J.setting s.job)) s.window.window };
 }
 
 impl<J: Job> Session<J> {
-    /// A session over the empty window, before the first run.
-    pub fn new(alloc: Global, job: J) -> Result<Session<J>, AllocError>
-        ensures { IfOk result (λ s. s ≡ record { setting = J.setting job; runs = 0; rows = [] }) }
+    /// A session over the empty window of a kind, before the first run.
+    pub fn new(
+        alloc: Global,
+        job: J,
+        settings: Settings,
+        kind: Kind,
+    ) -> Result<Session<J>, AllocError>
+        requires settings { AreWithin settings }
+        requires parts { settings.parts ≡ 1 }
+        ensures { IfOk result (λ s. s ≡ record { setting = J.setting job; settings = settings; runs = 0; window = no_leaves kind settings.places }) }
     {
-        let window = Sheet::empty(alloc, job.setting())?;
+        let window = Window::new(alloc, kind, settings.places);
         Ok(Session {
             job,
+            settings,
             window,
             runs: 0,
         })
     }
 
-    /// Carries out the command that stands on a line of the script. A bucket is added to the window; a run writes its
-    /// number, how many keys the window has, and the lines of each key in byte order. What a growing window lacks, and a
-    /// record that the job does not accept, is refused.
+    /// Carries out the command that stands on a line of the script. A run writes its number, how many keys the window
+    /// has, and the lines of each key in byte order; any other command changes the window, or is refused on its line, and
+    /// touches neither the sink nor the meters.
     pub fn step<K: Sink>(
         &mut self,
         alloc: Global,
@@ -63,77 +72,56 @@ impl<J: Job> Session<J> {
     ) -> Result<(), Halt>
         requires line { line ≤ 2 ^ 62 }
         requires runs { self.old.runs < 2 ^ 63 }
+        requires accepted { accepted_of self.old < 2 ^ 63 }
         requires meters { FitsMeters meters.old.lanes.items meters.old.parts.items }
-        ensures steps { Steps (meaning (J.accepts self.old.setting) (J.emits self.old.setting) (J.joined self.old.setting) (J.text self.old.setting)) (J.good self.old.setting) self.old self.new c line (K.held out.old) (K.held out.new) result }
-        ensures stays { Stays self.old self.new (K.held out.old) (K.held out.new) result }
+        ensures steps { Steps (meaning (J.accepts self.old.setting) (J.emits self.old.setting) (J.joined self.old.setting) (J.text self.old.setting)) self.old self.new c line (K.held out.old) (K.held out.new) result }
+        ensures untouched { (c ≡ Run → ⊥) → (out.new ≡ out.old) × (meters.new ≡ meters.old) }
         ensures script { IsOfScript result }
         ensures later { K.faults out.old ≤ K.faults out.new }
         ensures failed { IsErrOf result Halt.Write → Rose (K.faults out.old) (K.faults out.new) }
         ensures meters { FitsMeters meters.new.lanes.items meters.new.parts.items }
     {
-        match &c {
-            Command::Bucket(records) => self.add(alloc, records, line, meters),
-            Command::Run => self.answer(alloc, out),
-            _ => Err(Halt::Script(ScriptFault {
-                line,
-                why: Why::NotHere,
-            })),
+        match c {
+            Command::Run => self.answer(alloc, out, meters),
+            c => self.change(alloc, c, line),
         }
     }
 
-    /// Adds a bucket to the window.
-    fn add(
-        &mut self,
-        alloc: Global,
-        records: &Records,
-        line: u64,
-        meters: &mut MeterRow<J::Meter>,
-    ) -> Result<(), Halt>
+    /// Has the window carry out a command.
+    fn change(&mut self, alloc: Global, c: Command, line: u64) -> Result<(), Halt>
         requires line { line ≤ 2 ^ 62 }
-        requires meters { FitsMeters meters.old.lanes.items meters.old.parts.items }
-        ensures adds { Adds (meaning (J.accepts self.old.setting) (J.emits self.old.setting) (J.joined self.old.setting) (J.text self.old.setting)) self.old self.new records.now line result }
-        ensures meters { FitsMeters meters.new.lanes.items meters.new.parts.items }
+        requires accepted { accepted_of self.old < 2 ^ 63 }
+        ensures changes { Changes (J.accepts self.old.setting) self.old self.new c line result }
+        ensures script { IsOfScript result }
+        ensures failed { IsErrOf result Halt.Write → ⊥ }
     {
-        match first_refused_of(&self.job, records) {
-            Some(index) => {
-                let line = line + 1 + index as u64;
-                return Err(Halt::Script(ScriptFault {
-                    line,
-                    why: Why::BadRecord,
-                }));
-            }
-            None => (),
+        match self.window.apply(alloc, c, &self.job) {
+            Ok(()) => Ok(()),
+            Err(refused) => Err(halt_of_refusal(line, refused)),
         }
-        let bucket = match sheet_of(alloc, &self.job, records, &mut meters.lanes[0]) {
-            Ok(bucket) => bucket,
-            Err(_) => return Err(Halt::Mem),
-        };
-        match merge_sheets(
-            alloc,
-            &self.job,
-            &self.window,
-            &bucket,
-            &mut meters.parts[0],
-        ) {
-            Ok(window) => self.window = window,
-            Err(_) => return Err(Halt::Mem),
-        }
-        Ok(())
     }
 
     /// Answers the next run: all of its bytes are gathered, and then written.
-    fn answer<K: Sink>(&mut self, alloc: Global, out: &mut K) -> Result<(), Halt>
-        requires { self.old.runs < 2 ^ 63 }
+    fn answer<K: Sink>(
+        &mut self,
+        alloc: Global,
+        out: &mut K,
+        meters: &mut MeterRow<J::Meter>,
+    ) -> Result<(), Halt>
+        requires runs { self.old.runs < 2 ^ 63 }
+        requires meters { FitsMeters meters.old.lanes.items meters.old.parts.items }
         ensures answers { Answers (meaning (J.accepts self.old.setting) (J.emits self.old.setting) (J.joined self.old.setting) (J.text self.old.setting)) self.old self.new (K.held out.old) (K.held out.new) result }
         ensures later { K.faults out.old ≤ K.faults out.new }
         ensures failed { IsErrOf result Halt.Write → Rose (K.faults out.old) (K.faults out.new) }
+        ensures meters { FitsMeters meters.new.lanes.items meters.new.parts.items }
     {
         let run = self.runs + 1;
-        let bytes = match piece_of(alloc, &self.job, &self.window, run) {
+        let bytes = match piece_of(alloc, &self.job, &self.window, run, meters) {
             Ok(bytes) => bytes,
             Err(_) => return Err(Halt::Mem),
         };
         self.runs = run;
+        self.window.run_done(alloc);
         match put_all(out, &bytes) {
             Ok(()) => Ok(()),
             Err(WriteFault::Failed) => Err(Halt::Write),
@@ -142,34 +130,23 @@ impl<J: Job> Session<J> {
     }
 }
 
-/// The sheet of a bucket, in one part.
-fn sheet_of<J: Job>(
-    alloc: Global,
-    job: &J,
-    records: &Records,
-    m: &mut J::Meter,
-) -> Result<Sheet<J>, AllocError>
-    requires accepted { AllAccepted (J.accepts (J.setting job.now)) records.now }
-    ensures setting { IfOk result (λ s. s.setting ≡ J.setting job.now) }
-    ensures entries { IfOk result (λ s. s.entries ≡ table_of (J.joined (J.setting job.now)) (pairs_of (J.emits (J.setting job.now)) records.now)) }
+/// The halt that a refusal of the command on a line is.
+fn halt_of_refusal(line: u64, refused: WindowFault) -> Halt
+    requires { line ≤ 2 ^ 62 }
+    ensures { RefusalIs line refused result }
 {
-    let mut sheets = map_sheets(alloc, job, records, 1, m)?;
-    Ok(sheets.swap_remove(0))
+    match refused {
+        WindowFault::NotHere => halt_at(line, Why::NotHere),
+        WindowFault::TooMany => halt_at(line, Why::TooMany),
+        WindowFault::BadRecord { index } => halt_at(line + 1 + index as u64, Why::BadRecord),
+        WindowFault::WindowLarge => halt_at(line, Why::WindowLarge),
+        WindowFault::Mem => Halt::Mem,
+    }
 }
 
-/// What a run writes over a window.
-fn piece_of<J: Job>(
-    alloc: Global,
-    job: &J,
-    window: &Sheet<J>,
-    run: u64,
-) -> Result<Vec<u8>, AllocError>
-    requires { window.now.setting ≡ J.setting job.now }
-    ensures { IfOk result (λ bytes. bytes.items ≡ header run (length window.now.entries) ++ lines_of (J.text (J.setting job.now)) window.now.entries) }
+/// The script's fault at a line.
+fn halt_at(line: u64, why: Why) -> Halt
+    ensures { result ≡ Halt.Script (record { line = line; why = why }) }
 {
-    let keys = window.entries().len();
-    let head = format!(in alloc; "# run {run} keys {keys}\n")?;
-    let mut bytes = Vec::from_slice(alloc, head.as_bytes())?;
-    window.write_lines(alloc, job, &mut bytes)?;
-    Ok(bytes)
+    Halt::Script(ScriptFault { line, why })
 }

@@ -1,6 +1,6 @@
 use Rattle.std.proofs.Common.{◌≡◌, ◌≤◌, ◌<◌, ◌+◌, ◌^◌, length, All}
 use Rattle.record_text.specs.Script.{Ending}
-use Rattle.slider_session.specs.Window.{AllAccepted}
+use Rattle.slider_session.specs.Accepted.{HoldsAccepted}
 use Rattle.slider_session.specs.Output.{meaning}
 use Rattle.plain_program.specs.Walk.{walked_from}
 use Rattle.plain_program.proofs.walking.walk_commands.Given as goal
@@ -12,7 +12,7 @@ invariant-commands g l =
     record {
       lines : All (λ c. c.1 < 2 ^ 62) l.rest;
       run : l.walk.run + length l.rest ≤ 1 + length l.commands;
-      accepted : All (AllAccepted (g.J.Job.accepts s)) l.walk.leaves.items;
+      accepted : HoldsAccepted (g.J.Job.accepts s) l.walk.window;
       walked : (ending : Ending) → walked_from j l.walk l.rest ending ≡ walked_from j l.initial.walk l.commands ending;
     }
 

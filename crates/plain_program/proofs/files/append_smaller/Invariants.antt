@@ -1,0 +1,9 @@
+use Rattle.std.proofs.Common.{◌≡◌, ◌++◌, length}
+use Rattle.chunk_store.specs.Files.{smaller}
+use Rattle.plain_program.proofs.files.append_smaller.Given as goal
+
+abbrev pub invariant-files : goal.invariant-files
+invariant-files l = l.into.items ++ smaller l.name l.rest ≡ l.initial.into.items ++ smaller l.name l.files
+
+abbrev pub decreases-files : goal.decreases-files
+decreases-files l = length l.rest

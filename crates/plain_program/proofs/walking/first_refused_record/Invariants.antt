@@ -1,8 +1,0 @@
-use Rattle.std.proofs.Common.{◌≡◌, drop}
-use Rattle.slider_session.specs.Window.{first_refused, refused_from}
-use Rattle.plain_program.proofs.walking.first_refused_record.Given as goal
-
-abbrev pub invariant-records : goal.invariant-records
-invariant-records g l =
-    let accepts = g.J.Job.accepts (g.J.Job.setting l.job) in
-    refused_from accepts l.i (drop l.i l.records) ≡ first_refused accepts l.records
