@@ -81,13 +81,7 @@ impl PlainWindow {
     }
 
     /// Records of the current file are replaced.
-    fn edit(
-        &mut self,
-        alloc: Global,
-        at: u32,
-        del: u32,
-        ins: &Records,
-    ) -> Result<(), AllocError>
+    fn edit(&mut self, alloc: Global, at: u32, del: u32, ins: &Records) -> Result<(), AllocError>
         requires { at + del ≤ length (current_records self.old) }
         ensures { OnOk result (self.new ≡ with_current self.old (spliced at del ins.now (current_records self.old))) }
     {

@@ -110,11 +110,7 @@ fn append_greater(
 }
 
 /// Appends a file, with memory of its own.
-fn append_file(
-    alloc: Global,
-    into: &mut Vec<PlainFile>,
-    file: &PlainFile,
-) -> Result<(), AllocError>
+fn append_file(alloc: Global, into: &mut Vec<PlainFile>, file: &PlainFile) -> Result<(), AllocError>
     ensures { OnOk result (into.new.items ≡ into.old.items ++ file.now ∷ []) }
 {
     let name = file.name.copy(alloc)?;

@@ -54,10 +54,7 @@ fn has_command(kind: Kind, c: &Command) -> bool
         Kind::Growing => matches!(c, Command::Bucket(_)),
         Kind::Document => matches!(
             c,
-            Command::File { .. }
-                | Command::Remove { .. }
-                | Command::Edit { .. }
-                | Command::Load(_)
+            Command::File { .. } | Command::Remove { .. } | Command::Edit { .. } | Command::Load(_)
         ),
     }
 }

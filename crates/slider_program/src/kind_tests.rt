@@ -97,12 +97,7 @@ const COMMANDS: [&[u8]; 16] = [
 
 /// A script of so many of these commands, from the one numbered `from` on up to `to`, drawn from a number by a linear
 /// congruential generator modulo 2^64.
-fn script_from(
-    alloc: Global,
-    seed: u64,
-    from: u64,
-    to: u64,
-) -> Result<Vec<u8>, AllocError> {
+fn script_from(alloc: Global, seed: u64, from: u64, to: u64) -> Result<Vec<u8>, AllocError> {
     let mut script = Vec::new(alloc);
     let mut state = seed.wrapping_add(1);
     for _ in 0..12 {
@@ -116,11 +111,7 @@ fn script_from(
 }
 
 /// Whether a script is served as by the plain program.
-fn serves_alike(
-    alloc: Global,
-    kind: Kind,
-    script: &[u8],
-) -> Result<bool, AllocError> {
+fn serves_alike(alloc: Global, kind: Kind, script: &[u8]) -> Result<bool, AllocError> {
     let real = served(alloc, BasicJobs.count(), kind, 3, script)?;
     let plain = served_plainly(alloc, BasicJobs.count(), kind, 3, script)?;
     Ok(real.out == plain.out && real.fault == plain.fault)
@@ -171,7 +162,8 @@ fn files_are_answered_in_name_order(rt: HostRuntime) -> Result<(), AllocError> {
 #[test]
 fn each_kind_refuses_at_its_line(rt: HostRuntime) -> Result<(), AllocError> {
     let alloc = rt.alloc();
-    let script = b"bucket 1\nk\t1\nbucket 1\nk\t2\nlate 0 1\nk\t3\nrun\ndrop 0\nlate 1 1\nk\t4\nrun\nlate 2 0\n";
+    let script =
+        b"bucket 1\nk\t1\nbucket 1\nk\t2\nlate 0 1\nk\t3\nrun\ndrop 0\nlate 1 1\nk\t4\nrun\nlate 2 0\n";
     let late = served(alloc, BasicJobs.latest(), Kind::Buckets, 2, script)?;
     assert!(rt; late.out.as_slice() == b"# run 1 keys 1\nk\t2\n# run 2 keys 1\nk\t4\n");
     assert!(rt; late.fault.as_str() == "fault 12 many\n");

@@ -57,7 +57,15 @@ fn run_job<J: Job, S: Source, K: Sink, E: Sink>(
         record { left = S.left source.new; held = K.held out.new; said = E.held err.new; source_faults = S.faults source.new; out_faults = K.faults out.new; err_faults = E.faults err.new } result }
     ensures meters { FitsMeters meters.new.lanes.items meters.new.parts.items }
 {
-    match serve(alloc, job, Settings::default(), Kind::Growing, source, out, meters) {
+    match serve(
+        alloc,
+        job,
+        Settings::default(),
+        Kind::Growing,
+        source,
+        out,
+        meters,
+    ) {
         Ok(()) => 0,
         Err(Halt::Script(fault)) => status_of_fault(alloc, err, fault),
         Err(Halt::Read) => 4,
