@@ -62,11 +62,15 @@ impl<R: Recipe> Collector<R> {
     ) -> Result<u64, MemoFault>
         requires of { self.old.caller.locks ≡ memo.now.locks }
         requires shard { shard < length memo.now.locks }
-        ensures keep { self.new.keep ≡ self.old.keep }
+        ensures same { (self.new.keep ≡ self.old.keep) × (self.new.caller.locks ≡ self.old.caller.locks) × (self.new.caller.number ≡ self.old.caller.number) }
         ensures swept { IfOk result (λ dropped. AtShard (Gained self.old.caller.number (Sweep self.old.caller.number (horizon_of self.old.keep run) dropped)) shard self.old.caller self.new.caller) }
         ensures fault { IfErr result (λ fault. Faults fault shard self.old.caller self.new.caller) }
     {
         let horizon = self.horizon(run);
-        memo.sweep(rt, &mut self.caller, shard, horizon)
+        match memo.sweep(rt, &mut self.caller, shard, horizon) {
+            Ok(dropped) => return Ok(dropped),
+            Err(MemoFault::Worn { ticket }) => return Err(MemoFault::Worn { ticket }),
+            Err(MemoFault::Mem) => return Err(MemoFault::Mem),
+        }
     }
 }

@@ -1,9 +1,9 @@
-ghost use Rattle.std.specs.Prelude.{◌≡◌, ◌*◌, ◌%◌, ◌∷◌, []};
+ghost use Rattle.std.specs.Prelude.{◌≡◌, ◌+◌, ◌*◌, ◌%◌, ◌<◌, ◌∷◌, [], vec_len, All};
 
 use super::*;
 use memo_core::Event;
 use memo_server::Recipe;
-use pin_table::{Caller, Kept, Memo, MemoFault};
+use pin_table::{Caller, Memo, MemoFault};
 use std::alloc::{AllocError, Global};
 use std::test::Fail;
 
@@ -41,53 +41,47 @@ impl Recipe for Twice {
     }
 }
 
+// The last caller of a memo.
+fn last_caller<R: Recipe>(memo: &Memo<R>, callers: &mut Vec<Caller<R>>) -> Caller<R>
+    requires some { 0 < vec_len callers.old }
+    requires of { All (λ c. c.locks ≡ memo.now.locks) callers.old.items }
+    ensures count { vec_len callers.new + 1 ≡ vec_len callers.old }
+    ensures rest { All (λ c. c.locks ≡ memo.now.locks) callers.new.items }
+    ensures of { result.locks ≡ memo.now.locks }
+{
+    match callers.pop() {
+        Some(caller) => caller,
+        None => unreachable!(),
+    }
+}
+
 #[test]
-fn an_unheld_entry_stays_for_so_many_runs(rt: HostRuntime) -> Result<(), Fail> {
-    let (memo, mut callers) = Memo::<Twice>::new(rt.alloc(), 2, 2)?;
-    let (Some(sweeper), Some(mut user)) = (callers.pop(), callers.pop()) else {
-        panic!(rt; "two callers")
-    };
-    let mut collector = Collector::new(sweeper, 3);
-    // Runs, their horizons with three runs kept, and how many of the shard's entries go.
+fn each_sweep_is_at_the_horizon(rt: HostRuntime) -> Result<(), Fail> {
+    let (memo, mut callers) = Memo::<Twice>::new(rt.alloc(), 2, 1)?;
+    let mut collector = Collector::new(last_caller(&memo, &mut callers), 3);
+    // Runs, and their horizons with three runs kept.
     for (run, horizon) in [(0, 0), (2, 0), (3, 0), (4, 1), (u64::MAX, u64::MAX - 3)] {
         assert_eq!(rt; collector.horizon(run), horizon, "run {run}");
     }
-    // An entry of run 5 in shard 1, whose pin is given up.
-    let Ok(Kept::Stored(pin)) = memo.keep(&rt, &mut user, 5, 1, 2) else {
-        panic!(rt; "memory was there")
-    };
-    assert!(rt; matches!(collector.sweep_shard(&rt, &memo, 100, 1), Ok(0)));
-    assert!(rt; memo.release(&rt, &mut user, pin).is_ok());
-    assert!(rt; matches!(collector.sweep_shard(&rt, &memo, 100, 0), Ok(0)));
-    assert!(rt; matches!(collector.sweep_shard(&rt, &memo, 8, 1), Ok(0)));
-    assert!(rt; matches!(collector.sweep_shard(&rt, &memo, 9, 1), Ok(1)));
-    callers.push(user)?;
+    assert!(rt; matches!(collector.sweep_shard(&rt, &memo, 9, 1), Ok(0)));
+    assert!(rt; matches!(collector.sweep_shard(&rt, &memo, 2, 0), Ok(0)));
     callers.push(collector.into_caller())?;
     let Ok(shards) = memo.close(callers) else {
         panic!(rt; "memory was there")
     };
     assert!(rt; shards.len() == 2);
-    let last = shards[1].history().last();
-    assert!(rt;
-        matches!(
-            last,
-            Some(Event::Sweep {
-                horizon: 6,
-                dropped: 1,
-                ..
-            })
-        )
-    );
+    for (place, want) in [(0, 0), (1, 6)] {
+        let history = shards[place].history();
+        assert!(rt; history.len() == 1);
+        assert!(rt; matches!(&history[0], Event::Sweep { horizon, .. } if *horizon == want));
+    }
     Ok(())
 }
 
 #[test]
 fn a_worn_lock_refuses(rt: HostRuntime) -> Result<(), Fail> {
     let (memo, mut callers) = Memo::<Twice>::starting_at(rt.alloc(), 1 << 62, 1, 1)?;
-    let Some(caller) = callers.pop() else {
-        panic!(rt; "one caller")
-    };
-    let mut collector = Collector::new(caller, 0);
+    let mut collector = Collector::new(last_caller(&memo, &mut callers), 0);
     let swept = collector.sweep_shard(&rt, &memo, 1, 0);
     assert!(rt; matches!(&swept, Err(MemoFault::Worn { ticket }) if *ticket == 1 << 62));
     Ok(())
