@@ -57,15 +57,18 @@ fn run_job<J: Job, S: Source, K: Sink, E: Sink>(
         record { left = S.left source.new; held = K.held out.new; said = E.held err.new; source_faults = S.faults source.new; out_faults = K.faults out.new; err_faults = E.faults err.new } result }
     ensures meters { FitsMeters meters.new.lanes.items meters.new.parts.items }
 {
-    match serve(
-        alloc,
-        job,
-        Settings::default(),
-        Kind::Growing,
-        source,
-        out,
-        meters,
-    ) {
+    // no word sets one of these yet
+    let settings = Settings {
+        parts: 1,
+        workers: 1,
+        shards: 1,
+        keep: 1,
+        places: 24,
+        work: false,
+        split: false,
+        steal: false,
+    };
+    match serve(alloc, job, settings, Kind::Growing, source, out, meters) {
         Ok(()) => 0,
         Err(Halt::Script(fault)) => status_of_fault(alloc, err, fault),
         Err(Halt::Read) => 4,
