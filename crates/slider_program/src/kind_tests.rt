@@ -19,7 +19,7 @@ struct Served {
 }
 
 /// Serves a script over a window, of which a circle has so many places.
-fn served<J: Job<Meter = CountMeter>>(
+fn served_by_session<J: Job<Meter = CountMeter>>(
     alloc: Global,
     job: J,
     kind: Kind,
