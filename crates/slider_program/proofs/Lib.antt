@@ -1,1 +1,4 @@
 pub mod Statuses
+pub mod WalkedWords
+pub mod ScanLaws
+pub mod PlanLaws

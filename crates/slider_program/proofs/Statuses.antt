@@ -8,9 +8,11 @@ use Rattle.record_text.specs.Script.{Ending, commands}
 use Rattle.window_manager.specs.Windows.{WindowState}
 use Rattle.slider_session.specs.Output.{Meaning, output_of, ending_of}
 use Rattle.record_text.specs.Lines.{whole_lines}
-use Rattle.slider_session.specs.Serving.{AtFault, OfTaken}
+use Rattle.slider_session.specs.Serving.{Whole, AtFault, OfTaken}
 use Rattle.slider_program.specs.Words.{fault_line, end_line}
-use Rattle.slider_program.specs.Program.{Seen, Tries, Answered, most_script}
+use Rattle.slider_program.specs.declared.plan.JobName.{JobName}
+use Rattle.slider_program.specs.declared.plan.JobName.TheVariants.{Count, Index, Latest, TopK}
+use Rattle.slider_program.specs.Program.{Seen, Tries, Answered, AnsweredFor, most_script}
 
 module _ {V : Type 0} (j : Meaning V) (w : WindowState) (old new : Seen) (status line : ℕ) (why : Why) (served : Told old.left new.left (λ script after. Told old.held new.held (AtFault j w most_script line why script after))) where
   neither : {A : Type 0} (n : ℕ) → (n ≢ 3) → (n ≢ 6) → (status ≡ 3) ⊎ (status ≡ 6) → status ≡ n → A
@@ -42,6 +44,11 @@ module _ {V : Type 0} (j : Meaning V) (w : WindowState) (old new : Seen) (quiet 
   of_taken served = told_with old.left new.left _ (λ script after. Told old.held new.held (GainsFront (output_of j w (commands most_script script)))) served (λ script after a b inner.
       told_with old.held new.held (OfTaken j w most_script script after) (GainsFront (output_of j w (commands most_script script))) inner (λ x y c d at. (output_of j w (commands most_script (whole_lines at.bytes)), at.front, at.written)))
 
+  -- the front of the output that was written where all of it was
+  of_whole : Told old.left new.left (λ script after. Told old.held new.held (Whole j w most_script script after)) → Told old.left new.left (λ script after. Told old.held new.held (GainsFront (output_of j w (commands most_script script))))
+  of_whole served = told_with old.left new.left _ (λ script after. Told old.held new.held (GainsFront (output_of j w (commands most_script script)))) served (λ script after a b inner.
+      told_with old.held new.held (Whole j w most_script script after) (GainsFront (output_of j w (commands most_script script))) inner (λ x y c d at. (output_of j w (commands most_script script), ([], sym (append-nil (output_of j w (commands most_script script)))), at.2)))
+
   module _ (front : Told old.left new.left (λ script after. Told old.held new.held (GainsFront (output_of j w (commands most_script script))))) where
     nothing_said : Told old.left new.left (λ script after. Told old.held new.held (λ bytes more. Told old.said new.said (GainsFront (end_line (ending_of j w (commands most_script script))))))
     nothing_said = told_with old.left new.left _ (λ script after. Told old.held new.held (λ bytes more. Told old.said new.said (GainsFront (end_line (ending_of j w (commands most_script script)))))) front (λ script after a b inner.
@@ -71,6 +78,17 @@ module _ {V : Type 0} (j : Meaning V) (w : WindowState) (old new : Seen) (quiet 
       known = inr (inr (inr (inr refl)));
     }
 
+  pub done_answered : Told old.left new.left (λ script after. Told old.held new.held (Whole j w most_script script after)) → Answered j w old new 0
+  done_answered served = record {
+    done = λ e. (served, quiet);
+    fault = λ e. cc;
+    read = λ e. cc;
+    write = λ e. cc;
+    front = of_whole served;
+    said = nothing_said (of_whole served);
+    known = inl refl;
+  }
+
   pub read_answered : Rose old.source_faults new.source_faults → Told old.left new.left (λ script after. Told old.held new.held (OfTaken j w most_script script after)) → Answered j w old new 4
   read_answered rose served = record {
     done = λ e. cc;
@@ -81,3 +99,14 @@ module _ {V : Type 0} (j : Meaning V) (w : WindowState) (old new : Seen) (quiet 
     said = nothing_said (of_taken served);
     known = inr (inr (inl refl));
   }
+
+-- want of memory before anything was touched
+untouched_answered : {V : Type 0} (j : Meaning V) (w : WindowState) (old : Seen) → Answered j w old old 6
+untouched_answered j w old = memory_answered j w old old refl (told_same old.left (λ script after. Told old.held old.held (GainsFront (output_of j w (commands most_script script)))) (λ script.
+    told_same old.held (GainsFront (output_of j w (commands most_script script))) (λ z. ([], (output_of j w (commands most_script script), refl), sym (append-nil z)))))
+
+pub untouched_for : {C I L T : Type 0} (w : WindowState) (count : Meaning C) (index : Meaning I) (latest : Meaning L) (topk : ℕ → Meaning T) (k : ℕ) (job : JobName) (old : Seen) → AnsweredFor w count index latest topk k job old old 6
+untouched_for w count index latest topk k Count old = untouched_answered count w old
+untouched_for w count index latest topk k Index old = untouched_answered index w old
+untouched_for w count index latest topk k Latest old = untouched_answered latest w old
+untouched_for w count index latest topk k TopK old = untouched_answered (topk k) w old

@@ -1,14 +1,14 @@
 -- What a call of the program promises.
-use Rattle.std.specs.Prelude.{◌≡◌, ℕ, List, ◌++◌, Option, Some, None, ◌⊎◌}
+use Rattle.std.specs.Prelude.{◌≡◌, ℕ, List, ◌++◌, Option, ◌⊎◌}
 use Rattle.definitions.specs.Outside.{Rose, Told, GainsFront}
 use Rattle.record_text.specs.declared.script_fault.Why.{Why}
 use Rattle.record_text.specs.Script.{commands}
 use Rattle.window_manager.specs.Windows.{WindowState}
 use Rattle.slider_session.specs.Output.{Meaning, output_of, ending_of}
 use Rattle.slider_session.specs.Serving.{Whole, AtFault, OfTaken}
-use Rattle.slider_program.specs.declared.words.NamedJob.{NamedJob}
-use Rattle.slider_program.specs.declared.words.NamedJob.TheVariants.{Count, Index, Latest, TopK}
-use Rattle.slider_program.specs.Words.{usage_line, fault_line, end_line}
+use Rattle.slider_program.specs.declared.plan.JobName.{JobName}
+use Rattle.slider_program.specs.declared.plan.JobName.TheVariants.{Count, Index, Latest, TopK}
+use Rattle.slider_program.specs.Words.{fault_line, end_line}
 
 -- the limit of a script
 abbrev pub most_script : ℕ
@@ -29,13 +29,13 @@ pub record Tries (line : List ℕ) (said now : Option (List ℕ)) (faults later 
   pub front : Told said now (GainsFront line)
   pub whole : (Rose faults later → ⊥) → Told said now (λ old new. new ≡ old ++ line)
 
--- the words were refused: nothing but `err` was touched
-pub record Refused (old new : Seen) (status : ℕ) : Type 0 where
+-- the words were refused with a line: nothing but `err` was touched
+pub record Refused (line : List ℕ) (old new : Seen) (status : ℕ) : Type 0 where
   pub source : (new.left ≡ old.left) × (new.source_faults ≡ old.source_faults)
   pub out : (new.held ≡ old.held) × (new.out_faults ≡ old.out_faults)
   pub known : (status ≡ 2) ⊎ (status ≡ 6)
-  pub tried : status ≡ 2 → Tries usage_line old.said new.said old.err_faults new.err_faults
-  pub front : Told old.said new.said (GainsFront usage_line)
+  pub tried : status ≡ 2 → Tries line old.said new.said old.err_faults new.err_faults
+  pub front : Told old.said new.said (GainsFront line)
 
 module _ {V : Type 0} (j : Meaning V) (w : WindowState) where
   -- the words were accepted: what each status says of the script that the source had left, of its output over the job and
@@ -55,11 +55,10 @@ module _ {V : Type 0} (j : Meaning V) (w : WindowState) where
     -- there is no other status; 6 is want of memory
     pub known : (status ≡ 0) ⊎ (status ≡ 3) ⊎ (status ≡ 4) ⊎ (status ≡ 5) ⊎ (status ≡ 6)
 
-module _ {C I L T : Type 0} (w : WindowState) (count : Meaning C) (index : Meaning I) (latest : Meaning L) (topk : ℕ → Meaning T) where
-  -- what was answered from a window on, over the job that the words name, of these four; `Refused` says what comes of words that name none
-  abbrev pub AnsweredBy : Option NamedJob → Seen → Seen → ℕ → Type 0
-  AnsweredBy None old new status = Unit {0}
-  AnsweredBy (Some Count) old new status = Answered count w old new status
-  AnsweredBy (Some Index) old new status = Answered index w old new status
-  AnsweredBy (Some Latest) old new status = Answered latest w old new status
-  AnsweredBy (Some (TopK k)) old new status = Answered (topk k) w old new status
+module _ {C I L T : Type 0} (w : WindowState) (count : Meaning C) (index : Meaning I) (latest : Meaning L) (topk : ℕ → Meaning T) (k : ℕ) where
+  -- what was answered from a window on, over the job of a name, of these four
+  abbrev pub AnsweredFor : JobName → Seen → Seen → ℕ → Type 0
+  AnsweredFor Count old new status = Answered count w old new status
+  AnsweredFor Index old new status = Answered index w old new status
+  AnsweredFor Latest old new status = Answered latest w old new status
+  AnsweredFor TopK old new status = Answered (topk k) w old new status

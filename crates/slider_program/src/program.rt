@@ -1,13 +1,21 @@
 // The top call.
-ghost use Rattle.std.specs.Prelude.{◌≡◌, ◌⊎◌, ◌+◌, ℕ, List, length, map, string_bytes};
+ghost use Rattle.std.specs.Prelude.{◌≡◌, ◌⊎◌, ◌+◌, ℕ, List, length, map, string_bytes, Ok, Err};
 ghost use Rattle.definitions.specs.Outside.{Told, GainsFront};
+ghost use Rattle.window_manager.specs.Windows.{empty_window};
 ghost use Rattle.slider_session.specs.Output.{meaning};
 ghost use Rattle.slider_session.specs.Serving.{FitsMeters};
-ghost use Rattle.std.specs.declared.option.Option.TheVariants.{None};
-ghost use Rattle.slider_program.specs.Words.{job_of, first_window, fault_line};
-ghost use Rattle.slider_program.specs.Program.{Seen, Tries, Refused, Answered, AnsweredBy};
+ghost use Rattle.slider_session.specs.Settings.{AreWithin};
+ghost use Rattle.slider_program.specs.Plans.{IsWithin, first_window, plan_of};
+ghost use Rattle.slider_program.specs.Usages.{line_for};
+ghost use Rattle.slider_program.specs.Words.{fault_line};
+ghost use Rattle.slider_program.specs.Program.{Seen, Tries, Refused, Answered, AnsweredFor};
+ghost use Rattle.slider_program.specs.declared.plan.Plan.{Plan};
+ghost use Rattle.slider_program.specs.declared.plan.Field.{Field};
 
-use crate::words::{NamedJob, line_of_fault, named_job};
+use crate::options::read_words;
+use crate::plan::{JobName, Plan};
+use crate::usage::{WordsFault, line_of_usage};
+use crate::words::line_of_fault;
 use job_laws::{Job, JobSet, MeterRow};
 use record_text::{Kind, ScriptFault};
 use slider_io::{Gate, Sink, Source, WriteFault, put_all};
@@ -42,33 +50,26 @@ fn status_of_fault<E: Sink>(alloc: Global, err: &mut E, fault: ScriptFault) -> u
     }
 }
 
-/// Serves the script that the source has left with a job over a window that only grows, and answers the status.
+/// Serves the script that the source has left with a job, from the empty window of a kind on, and answers the status.
 fn run_job<J: Job, S: Source, K: Sink, E: Sink>(
     alloc: Global,
     job: J,
+    settings: Settings,
+    kind: Kind,
     source: &mut S,
     out: &mut K,
     err: &mut E,
     meters: &mut MeterRow<J::Meter>,
 ) -> u8
+    requires settings { AreWithin settings }
+    requires parts { settings.parts ≡ 1 }
     requires meters { FitsMeters meters.old.lanes.items meters.old.parts.items }
-    ensures answered { Answered (meaning (J.accepts (J.setting job)) (J.emits (J.setting job)) (J.joined (J.setting job)) (J.text (J.setting job))) first_window
+    ensures answered { Answered (meaning (J.accepts (J.setting job)) (J.emits (J.setting job)) (J.joined (J.setting job)) (J.text (J.setting job))) (empty_window kind settings.places)
         record { left = S.left source.old; held = K.held out.old; said = E.held err.old; source_faults = S.faults source.old; out_faults = K.faults out.old; err_faults = E.faults err.old }
         record { left = S.left source.new; held = K.held out.new; said = E.held err.new; source_faults = S.faults source.new; out_faults = K.faults out.new; err_faults = E.faults err.new } result }
     ensures meters { FitsMeters meters.new.lanes.items meters.new.parts.items }
 {
-    // no word sets one of these yet
-    let settings = Settings {
-        parts: 1,
-        workers: 1,
-        shards: 1,
-        keep: 1,
-        places: 24,
-        work: false,
-        split: false,
-        steal: false,
-    };
-    match serve(alloc, job, settings, Kind::Growing, source, out, meters) {
+    match serve(alloc, job, settings, kind, source, out, meters) {
         Ok(()) => 0,
         Err(Halt::Script(fault)) => status_of_fault(alloc, err, fault),
         Err(Halt::Read) => 4,
@@ -77,9 +78,77 @@ fn run_job<J: Job, S: Source, K: Sink, E: Sink>(
     }
 }
 
-/// Reads the words, takes the named job from `jobs`, serves the script that `source` has left, and answers the status:
-/// 0 done, 2 words refused, 3 a fault of the script, 4 a read failed, 5 a write failed, 6 want of memory. The answers go
-/// to `out`, and the line for a refusal or a fault to `err`. Of the jobs it knows their laws alone.
+/// Serves the script that the source has left with the job and the window that a plan asks for.
+fn run_plan<S: Source, K: Sink, E: Sink, B: JobSet>(
+    alloc: Global,
+    plan: Plan,
+    jobs: &B,
+    source: &mut S,
+    out: &mut K,
+    err: &mut E,
+    meters: &mut MeterRow<B::Meter>,
+) -> u8
+    requires within { IsWithin plan }
+    requires meters { FitsMeters meters.old.lanes.items meters.old.parts.items }
+    ensures answered { AnsweredFor (first_window plan)
+        (meaning (B.Count.accepts 0) (B.Count.emits 0) (B.Count.joined 0) (B.Count.text 0))
+        (meaning (B.Index.accepts 0) (B.Index.emits 0) (B.Index.joined 0) (B.Index.text 0))
+        (meaning (B.Latest.accepts 0) (B.Latest.emits 0) (B.Latest.joined 0) (B.Latest.text 0))
+        (λ k. meaning (B.TopK.accepts k) (B.TopK.emits k) (B.TopK.joined k) (B.TopK.text k)) plan.k plan.job
+        record { left = S.left source.old; held = K.held out.old; said = E.held err.old; source_faults = S.faults source.old; out_faults = K.faults out.old; err_faults = E.faults err.old }
+        record { left = S.left source.new; held = K.held out.new; said = E.held err.new; source_faults = S.faults source.new; out_faults = K.faults out.new; err_faults = E.faults err.new } result }
+    ensures meters { FitsMeters meters.new.lanes.items meters.new.parts.items }
+{
+    let kind = plan.tree.kind();
+    let settings = plan.settings;
+    match plan.job {
+        JobName::Count => run_job(
+            alloc,
+            jobs.count(),
+            settings,
+            kind,
+            source,
+            out,
+            err,
+            meters,
+        ),
+        JobName::Index => run_job(
+            alloc,
+            jobs.index(),
+            settings,
+            kind,
+            source,
+            out,
+            err,
+            meters,
+        ),
+        JobName::Latest => run_job(
+            alloc,
+            jobs.latest(),
+            settings,
+            kind,
+            source,
+            out,
+            err,
+            meters,
+        ),
+        JobName::TopK => run_job(
+            alloc,
+            jobs.topk(plan.k),
+            settings,
+            kind,
+            source,
+            out,
+            err,
+            meters,
+        ),
+    }
+}
+
+/// Reads the words, takes the named job from `jobs`, serves the script that `source` has left from the empty window of
+/// the named tree on, and answers the status: 0 done, 2 words refused, 3 a fault of the script, 4 a read failed, 5 a write
+/// failed, 6 want of memory. The answers go to `out`, and the line for a refusal or a fault to `err`. Of the jobs it knows
+/// their laws alone.
 pub fn run_program<Q: Threads + Wait + Sync, S: Source, K: Sink, E: Sink, B: JobSet, G: Gate>(
     alloc: Global,
     _rt: &Q,
@@ -92,24 +161,22 @@ pub fn run_program<Q: Threads + Wait + Sync, S: Source, K: Sink, E: Sink, B: Job
     _gate: &G,
 ) -> u8
     requires meters { FitsMeters meters.old.lanes.items meters.old.parts.items }
-    ensures refused { job_of (map string_bytes words.now) ≡ None → Refused
+    ensures refused { (field : Field) → plan_of (map string_bytes words.now) ≡ Err field → Refused (line_for field)
         record { left = S.left source.old; held = K.held out.old; said = E.held err.old; source_faults = S.faults source.old; out_faults = K.faults out.old; err_faults = E.faults err.old }
         record { left = S.left source.new; held = K.held out.new; said = E.held err.new; source_faults = S.faults source.new; out_faults = K.faults out.new; err_faults = E.faults err.new } result }
-    ensures untouched { job_of (map string_bytes words.now) ≡ None → (meters.new ≡ meters.old) }
-    ensures answered { AnsweredBy first_window
+    ensures untouched { (field : Field) → plan_of (map string_bytes words.now) ≡ Err field → (meters.new ≡ meters.old) }
+    ensures answered { (plan : Plan) → plan_of (map string_bytes words.now) ≡ Ok plan → AnsweredFor (first_window plan)
         (meaning (B.Count.accepts 0) (B.Count.emits 0) (B.Count.joined 0) (B.Count.text 0))
         (meaning (B.Index.accepts 0) (B.Index.emits 0) (B.Index.joined 0) (B.Index.text 0))
         (meaning (B.Latest.accepts 0) (B.Latest.emits 0) (B.Latest.joined 0) (B.Latest.text 0))
-        (λ k. meaning (B.TopK.accepts k) (B.TopK.emits k) (B.TopK.joined k) (B.TopK.text k)) (job_of (map string_bytes words.now))
+        (λ k. meaning (B.TopK.accepts k) (B.TopK.emits k) (B.TopK.joined k) (B.TopK.text k)) plan.k plan.job
         record { left = S.left source.old; held = K.held out.old; said = E.held err.old; source_faults = S.faults source.old; out_faults = K.faults out.old; err_faults = E.faults err.old }
         record { left = S.left source.new; held = K.held out.new; said = E.held err.new; source_faults = S.faults source.new; out_faults = K.faults out.new; err_faults = E.faults err.new } result }
     ensures meters { FitsMeters meters.new.lanes.items meters.new.parts.items }
 {
-    match named_job(words) {
-        None => status_after(err, b"usage words\n", 2),
-        Some(NamedJob::Count) => run_job(alloc, jobs.count(), source, out, err, meters),
-        Some(NamedJob::Index) => run_job(alloc, jobs.index(), source, out, err, meters),
-        Some(NamedJob::Latest) => run_job(alloc, jobs.latest(), source, out, err, meters),
-        Some(NamedJob::TopK(k)) => run_job(alloc, jobs.topk(k), source, out, err, meters),
+    match read_words(alloc, words) {
+        Ok(plan) => run_plan(alloc, plan, jobs, source, out, err, meters),
+        Err(WordsFault::Usage(field)) => status_after(err, line_of_usage(field), 2),
+        Err(WordsFault::Mem) => 6,
     }
 }

@@ -259,32 +259,73 @@ fn command_lines_are_exact(rt: HostRuntime) -> Result<(), AllocError> {
 
 #[test]
 fn refused_words_have_their_usage(rt: HostRuntime) -> Result<(), AllocError> {
-    for line in [
-        "",
-        "--job count",
-        "--job=count --tree coalescing",
-        "--tree coalescing --job count",
-        "--job count --tree coalescing x",
-        "--job sum --tree coalescing",
-        "--job Count --tree coalescing",
-        "--jobs count --tree coalescing",
-        "--job count --trees coalescing",
-        "--job latest --tree folding",
-        "--job count --k 2 --tree coalescing",
-        "--job topk --tree coalescing --k 2",
-        "--job topk --K 2 --tree coalescing",
-        "--job topk --k 2 --tree folding",
-        "--job topk --k 0 --tree coalescing",
-        "--job topk --k 01 --tree coalescing",
-        "--job topk --k 1001 --tree coalescing",
-        "--job topk --k x --tree coalescing",
+    for (line, usage) in [
+        ("", "usage words\n"),
+        ("--job count", "usage tree\n"),
+        ("--job count --tree coalescing x", "usage words\n"),
+        ("--job sum --tree coalescing", "usage job\n"),
+        ("--job count --trees coalescing", "usage words\n"),
+        ("--job count --tree rope", "usage tree\n"),
+        ("--job topk --k 0 --tree coalescing", "usage k\n"),
+        ("--job topk --k 1001 --tree coalescing", "usage k\n"),
+        ("--job count --tree rotating --buckets 0", "usage buckets\n"),
+        (
+            "--job count --tree rotating --buckets 4097",
+            "usage buckets\n",
+        ),
+        ("--job latest --tree rotating", "usage tree\n"),
     ] {
         let words = words(rt.alloc(), line)?;
         let ran = run(&rt, rt.alloc(), words.as_slice(), b"run\n")?;
         assert_eq!(rt; ran.status, 2, "at {line}");
         assert!(rt; ran.out.is_empty());
-        assert!(rt; ran.err.as_slice() == b"usage words\n".as_slice());
+        assert!(rt; ran.err.as_slice() == usage.as_bytes());
     }
+    Ok(())
+}
+
+#[test]
+fn a_circle_forgets_the_oldest_bucket(rt: HostRuntime) -> Result<(), AllocError> {
+    assert!(rt;
+        line_gives(
+            &rt,
+            rt.alloc(),
+            "--job count --tree rotating --buckets 2",
+            b"bucket 1\na\nbucket 1\nb\nbucket 1\nc\nrun\n",
+            b"# run 1 keys 2\nb\t1\nc\t1\n",
+            b""
+        )?
+    );
+    Ok(())
+}
+
+#[test]
+fn the_latest_value_wins_through_drops(rt: HostRuntime) -> Result<(), AllocError> {
+    assert!(rt;
+        line_gives(
+            &rt,
+            rt.alloc(),
+            "--job latest --tree folding",
+            b"bucket 1\nk\t1\nbucket 1\nk\t2\nrun\ndrop 1\nrun\n",
+            b"# run 1 keys 1\nk\t2\n# run 2 keys 1\nk\t2\n",
+            b""
+        )?
+    );
+    Ok(())
+}
+
+#[test]
+fn an_edited_document_is_answered(rt: HostRuntime) -> Result<(), AllocError> {
+    assert!(rt;
+        line_gives(
+            &rt,
+            rt.alloc(),
+            "--job count --tree random",
+            b"load 2\na\nb\nrun\nedit 0 1 1\nc\nrun\n",
+            b"# run 1 keys 2\na\t1\nb\t1\n# run 2 keys 2\nb\t1\nc\t1\n",
+            b""
+        )?
+    );
     Ok(())
 }
 

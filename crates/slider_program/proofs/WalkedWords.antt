@@ -1,0 +1,311 @@
+-- What `clap` makes of a well formed list: the options and their values, as the scan has them.
+use Rattle.std.proofs.Common.{◌≡◌, ◌∙◌, ◌&&◌, ◌||◌, ℕ, Bool, cond, true, false, refl, sym, ap, true≢false, List, [], ◌∷◌, ◌++◌, map, Option, Some, None, append-nil, append_assoc, nat_lt}
+use Rattle.std.specs.Prelude.{◌==◌, not, bytes_eq, option_map, option_and_then, slice_get, is_some}
+use Rattle.std.specs.List.{find, fold, list_any}
+use Rattle.std.specs.Option.{unwrap_or}
+use Rattle.std.proofs.lemmas.Slice.Eq.{bytes_eq-Decides}
+use Rattle.std.proofs.lemmas.Cmp.{nat_list_eq_equiv}
+use Rattle.clap.specs.declared.parser.matches.ValueSource.TheVariants.{CommandLine}
+use Rattle.clap.specs.Lexer.{long_of, long_of_rest, short_of, strip_byte}
+use Rattle.clap.specs.Walk.{Held, Row, Rule, Step, Waiting, Walk, after_flag, after_step, arg_by_id, arg_by_long, at_row, first_of, has_row, idle, long_met, long_or_other, next, nothing_held, option, option_word, reacted, reading_by, settled, settled_rows, short_or_plain, trailing, used, used_by_id, walk, walked, with_default, with_values, more_values, word_met}
+use Rattle.clap.specs.Simple.{filled, matches_of, with_index}
+use Rattle.slider_program.specs.WellFormed.{Text, Item, option_names, is_option, is_stray, begins_with_dash, name_and_value, option_in, with_item, is_met, begun, met_option, scan, items_of, value_of}
+use Rattle.slider_program.specs.Options.{option_rule, slider_app}
+
+-- ---- small facts
+
+-- a list that is there where a test failed, or where it passed
+taken : {A : Type 0} (b : Bool) (o : Option A) (x : A) → cond b None o ≡ Some x → (b ≡ false) × (o ≡ Some x)
+taken true o x e = absurd (true≢false (ap is_some (sym e)))
+taken false o x e = (refl, e)
+
+let_in : {A : Type 0} (b : Bool) (o : Option A) (x : A) → cond b o None ≡ Some x → (b ≡ true) × (o ≡ Some x)
+let_in true o x e = (refl, e)
+let_in false o x e = absurd (true≢false (ap is_some (sym e)))
+
+both_true : (a b : Bool) → (a && b) ≡ true → (a ≡ true) × (b ≡ true)
+both_true true b e = (refl, e)
+both_true false b e = absurd (true≢false (sym e))
+
+neither : (a b : Bool) → (a || b) ≡ false → (a ≡ false) × (b ≡ false)
+neither true b e = absurd (true≢false e)
+neither false b e = (refl, e)
+
+not_true : (b : Bool) → not b ≡ true → b ≡ false
+not_true true e = absurd (true≢false (sym e))
+not_true false e = refl
+
+same_text : (a b : Text) → bytes_eq a b ≡ true → a ≡ b
+same_text a b e = (bytes_eq-Decides a b).0 e
+
+-- the items behind the first one
+rest_of : (name value : Text) (o : Option (List Item)) (items : List Item) → with_item name value o ≡ Some items → (rest : List Item) × (o ≡ Some rest) × (items ≡ (name, value) ∷ rest)
+rest_of name value None items e = absurd (true≢false (ap is_some (sym e)))
+rest_of name value (Some rest) items e = (rest, refl, sym (ap (λ (o : Option (List Item)). unwrap_or o []) e))
+
+-- ---- the rules of the options, as they are built
+
+abbrev rule_for : Text → Rule
+rule_for name = with_index 1 (filled (option_rule name))
+
+abbrev rules : List Rule
+rules = map rule_for option_names
+
+by_long : (names : List Text) (name : Text) → list_any (λ n. bytes_eq name n) names ≡ true → arg_by_long (map rule_for names) name ≡ Some (rule_for name)
+by_long [] name is = absurd (true≢false (sym is))
+by_long (n ∷ names) name is = go (bytes_eq name n) refl is (by_long names name)
+  where
+    go : (b : Bool) → bytes_eq name n ≡ b → (b || list_any (λ m. bytes_eq name m) names) ≡ true
+        → (list_any (λ m. bytes_eq name m) names ≡ true → arg_by_long (map rule_for names) name ≡ Some (rule_for name)) → arg_by_long (map rule_for (n ∷ names)) name ≡ Some (rule_for name)
+    go true here is further =
+        let same : n ≡ name = sym (same_text name n here) in
+        let hit : bytes_eq n name ≡ true = nat_list_eq_equiv.symm n name ∙ here in
+        ap (λ b. cond (b || false) (Some (rule_for n)) (arg_by_long (map rule_for names) name)) hit ∙ ap (λ (m : Text). Some (rule_for m)) same
+    go false here is further =
+        let miss : bytes_eq n name ≡ false = nat_list_eq_equiv.symm n name ∙ here in
+        ap (λ b. cond (b || false) (Some (rule_for n)) (arg_by_long (map rule_for names) name)) miss ∙ further is
+
+by_id : (names : List Text) (name : Text) → list_any (λ n. bytes_eq name n) names ≡ true → arg_by_id (map rule_for names) name ≡ Some (rule_for name)
+by_id [] name is = absurd (true≢false (sym is))
+by_id (n ∷ names) name is = go (bytes_eq name n) refl is (by_id names name)
+  where
+    go : (b : Bool) → bytes_eq name n ≡ b → (b || list_any (λ m. bytes_eq name m) names) ≡ true
+        → (list_any (λ m. bytes_eq name m) names ≡ true → arg_by_id (map rule_for names) name ≡ Some (rule_for name)) → arg_by_id (map rule_for (n ∷ names)) name ≡ Some (rule_for name)
+    go true here is further =
+        let same : n ≡ name = sym (same_text name n here) in
+        let hit : bytes_eq n name ≡ true = nat_list_eq_equiv.symm n name ∙ here in
+        ap (λ b. cond b (Some (rule_for n)) (arg_by_id (map rule_for names) name)) hit ∙ ap (λ (m : Text). Some (rule_for m)) same
+    go false here is further =
+        let miss : bytes_eq n name ≡ false = nat_list_eq_equiv.symm n name ∙ here in
+        ap (λ b. cond b (Some (rule_for n)) (arg_by_id (map rule_for names) name)) miss ∙ further is
+
+option_by_long : (name : Text) → is_option name ≡ true → arg_by_long rules name ≡ Some (rule_for name)
+unfolding is_option
+option_by_long name is = by_long option_names name is
+
+option_by_id : (name : Text) → is_option name ≡ true → arg_by_id rules name ≡ Some (rule_for name)
+unfolding is_option
+option_by_id name is = by_id option_names name is
+
+-- no option has a default
+no_defaults : (names : List Text) (rows : List Row) → fold with_default rows (map rule_for names) ≡ rows
+no_defaults [] rows = refl
+no_defaults (n ∷ names) rows =
+    let same : with_default rows (rule_for n) ≡ rows = elim (has_row n rows) as (λ b. cond b rows rows ≡ rows) [ true ↦ refl | false ↦ refl ] in
+    ap (λ (r : List Row). fold with_default r (map rule_for names)) same ∙ no_defaults names rows
+
+-- ---- rows
+
+-- the row of an option and its value
+abbrev item_row : Item → Row
+item_row item = record { id = item.0; values = item.1 ∷ []; count = None; source = Some CommandLine; reading = reading_by (rule_for item.0) }
+
+abbrev rows_for : List Item → List Row
+rows_for items = map item_row items
+
+abbrev names_of_items : List Item → List Text
+names_of_items items = map (λ (item : Item). item.0) items
+
+at_no_row : (id : Text) (change : Row → List Row) (missing rows : List Row) → has_row id rows ≡ false → at_row id change missing rows ≡ rows ++ missing
+at_no_row id change missing [] none = refl
+at_no_row id change missing (r ∷ rows) none =
+    let parts = neither (bytes_eq r.id id) (has_row id rows) none in
+    rw parts.0 (ap (λ (rs : List Row). r ∷ rs) (at_no_row id change missing rows parts.1))
+
+row_met : (name : Text) (items : List Item) → has_row name (rows_for items) ≡ is_met (names_of_items items) name
+row_met name [] = refl
+row_met name (item ∷ items) = ap (λ b. bytes_eq item.0 name || b) (row_met name items)
+
+rows_more : (items : List Item) (item : Item) → rows_for items ++ item_row item ∷ [] ≡ rows_for (items ++ item ∷ [])
+rows_more [] item = refl
+rows_more (i ∷ items) item = ap (λ (rs : List Row). item_row i ∷ rs) (rows_more items item)
+
+names_more : (items : List Item) (name value : Text) → names_of_items items ++ name ∷ [] ≡ names_of_items (items ++ (name, value) ∷ [])
+names_more [] name value = refl
+names_more (i ∷ items) name value = ap (λ (ns : List Text). i.0 ∷ ns) (names_more items name value)
+
+-- a first use of an option adds its row
+used_row : (name value : Text) (items : List Item) → is_met (names_of_items items) name ≡ false → used (rule_for name) (value ∷ []) (rows_for items) ≡ rows_for (items ++ (name, value) ∷ [])
+used_row name value items new =
+    let none : has_row name (rows_for items) ≡ false = row_met name items ∙ new in
+    let without_is : at_row name (λ _. []) [] (rows_for items) ≡ rows_for items = at_no_row name (λ _. []) [] (rows_for items) none ∙ append-nil (rows_for items) in
+    ap (λ (rs : List Row). with_values name (reading_by (rule_for name)) CommandLine (value ∷ []) rs) without_is
+    ∙ at_no_row name (more_values CommandLine (value ∷ [])) (item_row (name, value) ∷ []) (rows_for items) none ∙ rows_more items (name, value)
+
+-- ---- a word
+
+-- a word that begins an option is a long option to `clap`
+named_some : is_option [] ≡ true → ⊥
+unfolding is_option
+named_some is = true≢false (sym is)
+
+long_is : (word : Text) (o : Text × Option Text) → option_in word ≡ Some o → is_option o.0 ≡ true → (long_of word ≡ Some o) × (bytes_eq word (45 ∷ 45 ∷ []) ≡ false)
+long_is [] o is named = absurd (true≢false (ap is_some (sym is)))
+long_is (a ∷ []) o is named = absurd (true≢false (ap is_some (sym is)))
+long_is (a ∷ b ∷ text) o is named =
+    elim (a == 45) as (λ s. option_map name_and_value (cond (s && (b == 45)) (Some text) None) ≡ Some o
+    → (option_and_then long_of_rest (option_and_then (strip_byte 45) (cond s (Some (b ∷ text)) None)) ≡ Some o) × ((s && bytes_eq (b ∷ text) (45 ∷ [])) ≡ false))
+    [ true ↦ second text | false ↦ λ e. absurd (true≢false (ap is_some (sym e))) ] is
+  where
+    tail : (t : Text) → option_map name_and_value (Some t) ≡ Some o → (long_of_rest t ≡ Some o) × (bytes_eq t [] ≡ false)
+    tail [] e =
+        let none : [] ≡ o.0 = ap (λ (p : Option (Text × Option Text)). (unwrap_or p o).0) e in
+        absurd (named_some (ap is_option none ∙ named))
+    tail (x ∷ xs) e = (e, refl)
+
+    second : (t : Text) → option_map name_and_value (cond (true && (b == 45)) (Some t) None) ≡ Some o
+        → (option_and_then long_of_rest (option_and_then (strip_byte 45) (Some (b ∷ t))) ≡ Some o) × (bytes_eq (b ∷ t) (45 ∷ []) ≡ false)
+    second t = elim (b == 45) as (λ s. option_map name_and_value (cond s (Some t) None) ≡ Some o
+        → (option_and_then long_of_rest (cond s (Some t) None) ≡ Some o) × ((s && bytes_eq t []) ≡ false))
+        [ true ↦ tail t | false ↦ λ e. absurd (true≢false (ap is_some (sym e))) ]
+
+-- a word that does not begin with a dash is no flag to `clap`
+no_flag : (word : Text) → begins_with_dash word ≡ false → (bytes_eq word (45 ∷ 45 ∷ []) ≡ false) × (long_of word ≡ None) × (short_of word ≡ None)
+no_flag [] plain = (refl, refl, refl)
+no_flag (b ∷ bs) plain = (rw plain refl, rw plain refl, rw plain refl)
+
+-- ---- a step of the walk
+
+abbrev at : Waiting → Held → Walk
+at waiting held = record { held = held; waiting = waiting; position = 1; is_trailing = false; stopped = None }
+
+-- an option where none waits for its value
+met_long : (word name : Text) (value : Option Text) (h : Held) → option_in word ≡ Some (name, value) → is_option name ≡ true
+    → word_met rules [] false idle 1 word h ≡ after_flag rules idle word (long_met rules (Some (rule_for name)) value h).0 (long_met rules (Some (rule_for name)) value h).1
+met_long word name value h is named =
+    let long = long_is word (name, value) is named in
+    ap (λ b. cond b (h, trailing 1) (long_or_other rules idle word (long_of word) h)) long.1
+    ∙ ap (λ (o : Option (Text × Option Text)). long_or_other rules idle word o h) long.0
+    ∙ ap (λ (o : Option Rule). after_flag rules idle word (long_met rules o value h).0 (long_met rules o value h).1) (option_by_long name named)
+
+step_with : (word name value : Text) (h : Held) → option_in word ≡ Some (name, Some value) → is_option name ≡ true
+    → walked rules [] (at idle h) word ≡ at idle (reacted rules (rule_for name) (value ∷ []) h)
+unfolding walked
+step_with word name value h is named = ap (λ (p : Held × Step). after_step rules word (at idle h) p.0 p.1) (met_long word name (Some value) h is named)
+
+step_without : (word name : Text) (h : Held) → option_in word ≡ Some (name, None) → is_option name ≡ true
+    → walked rules [] (at idle h) word ≡ at (option name) (record (settled rules h) { pending = Some (name, []) })
+unfolding walked
+step_without word name h is named = ap (λ (p : Held × Step). after_step rules word (at idle h) p.0 p.1) (met_long word name None h is named)
+
+-- the value that an option waits for
+abbrev waits : Text → List Text → List Row → ℕ → Held
+waits name values rows skip = record { rows = rows; pending = Some (name, values); skip = skip }
+
+step_value : (word name : Text) (rows : List Row) (skip : ℕ) → begins_with_dash word ≡ false → is_option name ≡ true
+    → walked rules [] (at (option name) (waits name [] rows skip)) word ≡ at idle (waits name (word ∷ []) rows skip)
+unfolding walked
+step_value word name rows skip plain named =
+    let flags = no_flag word plain in
+    let h = waits name [] rows skip in
+    let same : bytes_eq name name ≡ true = nat_list_eq_equiv.refl name in
+    let met : word_met rules [] false (option name) 1 word h ≡ (waits name (word ∷ []) rows skip, next idle) =
+    ap (λ b. cond b (h, trailing 1) (long_or_other rules (option name) word (long_of word) h)) flags.0
+    ∙ ap (λ (o : Option (Text × Option Text)). long_or_other rules (option name) word o h) flags.1
+    ∙ ap (λ (o : Option Text). short_or_plain rules (option name) word o h) flags.2
+    ∙ ap (λ (o : Option Rule). ((option_word o name word h).0, next (option_word o name word h).1)) (option_by_id name named)
+    ∙ ap (λ b. (waits name (word ∷ []) rows skip, next (cond (nat_lt (cond b 1 0) 1) (option name) idle))) same in
+    ap (λ (p : Held × Step). after_step rules word (at (option name) h) p.0 p.1) met
+
+-- ---- the walk over a well formed list
+
+-- what the walk over these words comes to, from where the items before them were read
+abbrev EndsWith : Walk → List Text → List Item → Type 0
+EndsWith w words items = settled_rows rules (fold (walked rules []) w words).held.pending (fold (walked rules []) w words).held.rows ≡ rows_for items
+
+record Walks (words : List Text) : Type 0 where
+  alone : (h : Held) (done items : List Item) → settled_rows rules h.pending h.rows ≡ rows_for done → scan (names_of_items done) None words ≡ Some items
+      → EndsWith (at idle h) words (done ++ items)
+  waiting : (name : Text) (rows : List Row) (skip : ℕ) (done items : List Item) → rows ≡ rows_for done → is_option name ≡ true → is_met (names_of_items done) name ≡ false
+      → scan (names_of_items done ++ name ∷ []) (Some name) words ≡ Some items → EndsWith (at (option name) (waits name [] rows skip)) words (done ++ items)
+
+no_words : Walks []
+no_words = record {
+  alone = λ h done items held is.
+      let none : [] ≡ items = ap (λ (o : Option (List Item)). unwrap_or o items) is in
+      held ∙ ap rows_for (sym (append-nil done) ∙ ap (λ (l : List Item). done ++ l) none);
+  waiting = λ name rows skip done items same named new is. absurd (true≢false (ap is_some (sym is)));
+}
+
+-- an option that has its value
+one_word : (word name value : Text) (rest : List Text) (h : Held) (done items : List Item) → Walks rest → settled_rows rules h.pending h.rows ≡ rows_for done
+    → option_in word ≡ Some (name, Some value) → is_option name ≡ true → is_met (names_of_items done) name ≡ false
+    → with_item name value (scan (names_of_items done ++ name ∷ []) None rest) ≡ Some items → EndsWith (at idle h) (word ∷ rest) (done ++ items)
+one_word word name value rest h done items walks held is named new scanned =
+    let more = rest_of name value (scan (names_of_items done ++ name ∷ []) None rest) items scanned in
+    let after = done ++ (name, value) ∷ [] in
+    let rows : used (rule_for name) (value ∷ []) (settled_rows rules h.pending h.rows) ≡ rows_for after =
+    ap (λ (rs : List Row). used (rule_for name) (value ∷ []) rs) held ∙ used_row name value done new in
+    let scanned_on : scan (names_of_items after) None rest ≡ Some more.0 = ap (λ (ns : List Text). scan ns None rest) (sym (names_more done name value)) ∙ more.1 in
+    ap (λ (w : Walk). settled_rows rules (fold (walked rules []) w rest).held.pending (fold (walked rules []) w rest).held.rows) (step_with word name value h is named)
+    ∙ walks.alone (reacted rules (rule_for name) (value ∷ []) h) after more.0 rows scanned_on
+    ∙ ap rows_for (append_assoc done ((name, value) ∷ []) more.0 ∙ ap (λ (l : List Item). done ++ l) (sym more.2))
+
+-- an option that waits for its value
+first_word : (word name : Text) (rest : List Text) (h : Held) (done items : List Item) → Walks rest → settled_rows rules h.pending h.rows ≡ rows_for done
+    → option_in word ≡ Some (name, None) → is_option name ≡ true → is_met (names_of_items done) name ≡ false
+    → scan (names_of_items done ++ name ∷ []) (Some name) rest ≡ Some items → EndsWith (at idle h) (word ∷ rest) (done ++ items)
+first_word word name rest h done items walks held is named new scanned =
+    ap (λ (w : Walk). settled_rows rules (fold (walked rules []) w rest).held.pending (fold (walked rules []) w rest).held.rows) (step_without word name h is named)
+    ∙ walks.waiting name (settled_rows rules h.pending h.rows) h.skip done items held named new scanned
+
+-- an option's value in a word of its own
+value_word : (word name : Text) (rest : List Text) (rows : List Row) (skip : ℕ) (done items : List Item) → Walks rest → rows ≡ rows_for done → begins_with_dash word ≡ false
+    → is_option name ≡ true → is_met (names_of_items done) name ≡ false
+    → with_item name word (scan (names_of_items done ++ name ∷ []) None rest) ≡ Some items → EndsWith (at (option name) (waits name [] rows skip)) (word ∷ rest) (done ++ items)
+value_word word name rest rows skip done items walks same plain named new scanned =
+    let more = rest_of name word (scan (names_of_items done ++ name ∷ []) None rest) items scanned in
+    let after = done ++ (name, word) ∷ [] in
+    let held : settled_rows rules (Some (name, word ∷ [])) rows ≡ rows_for after =
+    ap (λ (o : Option Rule). used_by_id o (word ∷ []) rows) (option_by_id name named)
+    ∙ ap (λ (rs : List Row). used (rule_for name) (word ∷ []) rs) same ∙ used_row name word done new in
+    let scanned_on : scan (names_of_items after) None rest ≡ Some more.0 = ap (λ (ns : List Text). scan ns None rest) (sym (names_more done name word)) ∙ more.1 in
+    ap (λ (w : Walk). settled_rows rules (fold (walked rules []) w rest).held.pending (fold (walked rules []) w rest).held.rows) (step_value word name rows skip plain named)
+    ∙ walks.alone (waits name (word ∷ []) rows skip) after more.0 held scanned_on
+    ∙ ap rows_for (append_assoc done ((name, word) ∷ []) more.0 ∙ ap (λ (l : List Item). done ++ l) (sym more.2))
+
+-- the option that a word begins
+begins : (word : Text) (rest : List Text) (h : Held) (done items : List Item) (o : Option (Text × Option Text)) → Walks rest → settled_rows rules h.pending h.rows ≡ rows_for done
+    → option_in word ≡ o → met_option (names_of_items done) o (λ more waiting. scan more waiting rest) ≡ Some items → EndsWith (at idle h) (word ∷ rest) (done ++ items)
+begins word rest h done items None walks held is scanned = absurd (true≢false (ap is_some (sym scanned)))
+begins word rest h done items (Some o) walks held is scanned =
+    let passed = let_in (is_option o.0 && not (is_met (names_of_items done) o.0)) (begun (names_of_items done) o.0 o.1 (λ more waiting. scan more waiting rest)) items scanned in
+    let parts = both_true (is_option o.0) (not (is_met (names_of_items done) o.0)) passed.0 in
+    by_value o.0 o.1 is parts.0 (not_true (is_met (names_of_items done) o.0) parts.1) passed.1
+  where
+    by_value : (name : Text) (value : Option Text) → option_in word ≡ Some (name, value) → is_option name ≡ true → is_met (names_of_items done) name ≡ false
+        → begun (names_of_items done) name value (λ more waiting. scan more waiting rest) ≡ Some items → EndsWith (at idle h) (word ∷ rest) (done ++ items)
+    by_value name None is named new scanned = first_word word name rest h done items walks held is named new scanned
+    by_value name (Some value) is named new scanned = one_word word name value rest h done items walks held is named new scanned
+
+walks_on : (word : Text) (rest : List Text) → Walks rest → Walks (word ∷ rest)
+walks_on word rest walks = record {
+  alone = λ h done items held scanned.
+      let kept = taken (is_stray word) (met_option (names_of_items done) (option_in word) (λ more waiting. scan more waiting rest)) items scanned in
+      begins word rest h done items (option_in word) walks held refl kept.1;
+  waiting = λ name rows skip done items same named new scanned.
+      let kept = taken (is_stray word || begins_with_dash word) (with_item name word (scan (names_of_items done ++ name ∷ []) None rest)) items scanned in
+      value_word word name rest rows skip done items walks same (neither (is_stray word) (begins_with_dash word) kept.0).1 named new kept.1;
+}
+
+walks : (words : List Text) → Walks words
+walks [] = no_words
+walks (word ∷ rest) = walks_on word rest (walks rest)
+
+-- the matches of a well formed list are its items
+matches_are : (words : List Text) (items : List Item) → items_of words ≡ Some items → matches_of slider_app words ≡ rows_for items
+unfolding items_of
+matches_are words items is =
+    no_defaults option_names (settled rules (walk rules [] nothing_held words).held).rows
+    ∙ (walks words).alone nothing_held [] items refl is
+
+-- the value of an option among the rows
+first_item : (items : List Item) (name : Text) → first_of name (rows_for items) ≡ value_of items name
+first_item [] name = refl
+first_item (item ∷ items) name = elim (bytes_eq item.0 name) as (λ b.
+    option_and_then (λ (r : Row). slice_get r.values 0) (cond b (Some (item_row item)) (find (λ (r : Row). bytes_eq r.id name) (rows_for items)))
+    ≡ option_map (λ (i : Item). i.1) (cond b (Some item) (find (λ (i : Item). bytes_eq i.0 name) items)))
+    [ true ↦ refl | false ↦ first_item items name ]
+
+pub value_found : (words : List Text) (items : List Item) (name : Text) → items_of words ≡ Some items → first_of name (matches_of slider_app words) ≡ value_of items name
+value_found words items name is = ap (first_of name) (matches_are words items is) ∙ first_item items name

@@ -1,0 +1,9 @@
+use Rattle.std.proofs.Common.{◌≡◌, map, is_some, option_map, string_bytes, drop}
+use Rattle.slider_program.specs.WellFormed.{scan, items_of}
+use Rattle.slider_program.proofs.scan.are_well_formed.Given as goal
+
+-- the words that are left are well formed behind those that were read, exactly where all are
+abbrev pub invariant-words : goal.invariant-words
+invariant-words l =
+    is_some (scan (map (λ n. n.now) l.scan.names.items) (option_map (λ n. n.now) l.scan.waiting) (map string_bytes (drop l.word-index l.words)))
+    ≡ is_some (items_of (map string_bytes l.words))

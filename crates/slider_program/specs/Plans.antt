@@ -1,0 +1,123 @@
+-- What the words of the command line ask for, and what they are refused for.
+use Rattle.std.specs.Prelude.{◌≡◌, ◌≤◌, ℕ, Bool, true, false, ◌&&◌, if◌then◌else◌, nat_le, List, codes, bytes_eq, Option, option_map, Result, Ok, Err}
+use Rattle.std.specs.declared.option.Option.TheVariants.{Some, None}
+use Rattle.definitions.specs.Numbers.{is_number, digits_value}
+use Rattle.record_text.specs.declared.kind.Kind.{Kind}
+use Rattle.record_text.specs.declared.kind.Kind.TheVariants as Kinds
+use Rattle.window_manager.specs.Windows.{WindowState, empty_window}
+use Rattle.slider_session.specs.Settings.{AreWithin}
+use Rattle.slider_program.specs.declared.plan.JobName.{JobName}
+use Rattle.slider_program.specs.declared.plan.JobName.TheVariants as jobs
+use Rattle.slider_program.specs.declared.plan.TreeName.{TreeName}
+use Rattle.slider_program.specs.declared.plan.TreeName.TheVariants as trees
+use Rattle.slider_program.specs.declared.plan.Plan.{Plan}
+use Rattle.slider_program.specs.declared.plan.Values.{Values}
+use Rattle.slider_program.specs.declared.plan.Field.{Field}
+use Rattle.slider_program.specs.declared.plan.Field.TheVariants as fields
+use Rattle.slider_program.specs.WellFormed.{Text, Item, items_of, value_of}
+
+-- the jobs and their names
+abbrev pub job_named : Text → Option JobName
+job_named name =
+    if bytes_eq name (codes "count") then Some jobs.Count
+    else if bytes_eq name (codes "index") then Some jobs.Index
+    else if bytes_eq name (codes "topk") then Some jobs.TopK
+    else if bytes_eq name (codes "latest") then Some jobs.Latest
+    else None
+
+-- the trees and their names
+abbrev pub tree_named : Text → Option TreeName
+tree_named name =
+    if bytes_eq name (codes "folding") then Some trees.Folding
+    else if bytes_eq name (codes "random") then Some trees.Random
+    else if bytes_eq name (codes "rotating") then Some trees.Rotating
+    else if bytes_eq name (codes "coalescing") then Some trees.Coalescing
+    else None
+
+-- the number from 1 to `most` that a text is
+abbrev pub number_within : ℕ → Text → Option ℕ
+number_within most text =
+    if is_number text && nat_le 1 (digits_value text) && nat_le (digits_value text) most then Some (digits_value text) else None
+
+-- the number from 1 to `most` that a value is, or the default where none is given
+abbrev pub number_or : ℕ → ℕ → Option Text → Option ℕ
+number_or default most None = Some default
+number_or default most (Some text) = number_within most text
+
+-- what a value that must be given is in its table
+abbrev pub given : {A : Type 0} → (Text → Option A) → Option Text → Option A
+given named None = None
+given named (Some name) = named name
+
+-- `latest` takes the last of its values in the window's order, and a rotating tree joins them in the order of their places
+abbrev pub joins_out_of_order : JobName → TreeName → Bool
+joins_out_of_order jobs.Latest trees.Rotating = true
+joins_out_of_order job tree = false
+
+-- what is there, or the refusal of its field
+abbrev pub demand : {A : Type 0} → Field → Option A → (A → Result Plan Field) → Result Plan Field
+demand field None next = Err field
+demand field (Some found) next = next found
+
+-- the values of the options, where they are given
+pub record Given : Type 0 where
+  pub job : Option Text
+  pub k : Option Text
+  pub tree : Option Text
+  pub buckets : Option Text
+
+-- what the values ask for, or the first field that is refused
+abbrev pub plan_by : Given → Result Plan Field
+plan_by v =
+    demand fields.Job (given job_named v.job) (λ job.
+    demand fields.K (number_or 10 1000 v.k) (λ k.
+    demand fields.Tree (given tree_named v.tree) (λ tree.
+    demand fields.Buckets (number_or 24 4096 v.buckets) (λ places.
+    if joins_out_of_order job tree then Err fields.Tree
+    else Ok (record {
+      job = job;
+      k = k;
+      tree = tree;
+      settings = record { parts = 1; workers = 1; shards = 1; keep = 1; places = places; work = false; split = false; steal = false };
+      seed = None;
+      then = false;
+    })))))
+
+-- the values of the options among these
+abbrev pub given_by : List Item → Given
+given_by items = record {
+  job = value_of items (codes "job");
+  k = value_of items (codes "k");
+  tree = value_of items (codes "tree");
+  buckets = value_of items (codes "buckets");
+}
+
+-- what the words ask for, or the first field that is refused
+unfoldable pub plan_of : List Text → Result Plan Field
+plan_of words = demand fields.Words (items_of words) (λ items. plan_by (given_by items))
+
+-- the numbers of a plan are within their limits, and so far there is one part
+pub record IsWithin (plan : Plan) : Type 0 where
+  pub k : (1 ≤ plan.k) × (plan.k ≤ 1000)
+  pub settings : AreWithin plan.settings
+  pub parts : plan.settings.parts ≡ 1
+
+-- the kind of window that a tree is for
+abbrev pub kind_of : TreeName → Kind
+kind_of trees.Folding = Kinds.Buckets
+kind_of trees.Random = Kinds.Document
+kind_of trees.Rotating = Kinds.Circle
+kind_of trees.Coalescing = Kinds.Growing
+
+-- the window that a script begins with: an empty one of that kind
+abbrev pub first_window : Plan → WindowState
+first_window plan = empty_window (kind_of plan.tree) plan.settings.places
+
+-- the values, as the code has them
+abbrev pub values_as_text : Values → Given
+values_as_text v = record {
+  job = option_map (λ text. text.now) v.job;
+  k = option_map (λ text. text.now) v.k;
+  tree = option_map (λ text. text.now) v.tree;
+  buckets = option_map (λ text. text.now) v.buckets;
+}

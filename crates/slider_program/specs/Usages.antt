@@ -1,0 +1,24 @@
+-- The line for words that are refused.
+use Rattle.std.specs.Prelude.{◌≡◌, List, ℕ, ◌++◌, codes, Result, Err}
+use Rattle.slider_program.specs.declared.plan.Plan.{Plan}
+use Rattle.slider_program.specs.declared.plan.Field.{Field}
+use Rattle.slider_program.specs.declared.plan.Field.TheVariants.{Words, Job, K, Tree, Buckets}
+use Rattle.slider_program.specs.declared.usage.WordsFault.{WordsFault}
+use Rattle.slider_program.specs.declared.usage.WordsFault.TheVariants.{Usage, Mem}
+
+-- the word of a field
+abbrev pub usage_word : Field → List ℕ
+usage_word Words = codes "words"
+usage_word Job = codes "job"
+usage_word K = codes "k"
+usage_word Tree = codes "tree"
+usage_word Buckets = codes "buckets"
+
+-- the line for a field
+abbrev pub line_for : Field → List ℕ
+line_for field = codes "usage " ++ usage_word field ++ codes "\n"
+
+-- a refusal is the one that the words deserve; want of memory may come at any time
+abbrev pub IsRefusalOf : Result Plan Field → WordsFault → Type 0
+IsRefusalOf asked (Usage field) = asked ≡ Err field
+IsRefusalOf asked Mem = Unit {0}

@@ -1,0 +1,71 @@
+// The values of the options of the command line, as `clap` reads them, and the plan that the words ask for.
+ghost use Rattle.std.specs.Prelude.{◌≡◌, ℕ, List, codes, IfErr, IfOk, Ok, Some, None, false, map, string_bytes};
+ghost use Rattle.clap.specs.Words.{app_of, new_rule, rule_of};
+ghost use Rattle.slider_program.specs.WellFormed.{Item, items_of};
+ghost use Rattle.slider_program.specs.Plans.{given_by, plan_of, values_as_text, IsWithin};
+ghost use Rattle.slider_program.specs.Usages.{IsRefusalOf};
+ghost use Rattle.slider_program.specs.Options.{slider_app};
+
+use crate::plan::{Field, Plan, Values, plan_by};
+use crate::scan::are_well_formed;
+use crate::usage::WordsFault;
+use clap::{Arg, ArgMatches, Command, Error};
+use std::alloc::{AllocError, Global};
+
+/// An option that takes one value.
+fn option<'a>(alloc: Global, name: &'a str) -> Arg<'a>
+    ensures rule { rule_of result ≡ record (new_rule name.entry.now) { long = Some name.entry.now } }
+    ensures alone { result.global ≡ false }
+{
+    Arg::new(alloc, name).long(name)
+}
+
+/// The command of the options that take one value. It has no positional, no help flag, no default and no relation between
+/// options.
+fn command<'a>(alloc: Global) -> Result<Command<'a>, AllocError>
+    ensures { IfOk result (λ command. app_of command ≡ slider_app) }
+{
+    Command::new(alloc, "slider")
+        .no_binary_name(true)
+        .disable_help_flag(true)
+        .arg(option(alloc, "job"))?
+        .arg(option(alloc, "k"))?
+        .arg(option(alloc, "tree"))?
+        .arg(option(alloc, "buckets"))
+}
+
+/// The values that a well formed list gives the options.
+fn values_of<'a>(alloc: Global, words: &'a [String]) -> Result<Values<'a>, Error>
+    ensures { (items : List Item) → items_of (map string_bytes words.entry.now) ≡ Some items → IfOk result (λ values. values_as_text values ≡ given_by items) }
+{
+    let command = command(alloc)?;
+    let matches = command.try_get_matches_from(words)?;
+    Ok(Values {
+        job: matches.get_str("job"),
+        k: matches.get_str("k"),
+        tree: matches.get_str("tree"),
+        buckets: matches.get_str("buckets"),
+    })
+}
+
+/// Reads the words of the command line: what they ask for, or the first field that they are refused for, in the order
+/// words, job, k, tree, buckets, and last tree for the pairing that the job refuses. Only a well formed list goes to
+/// `clap`, whose refusal of one can only be want of memory.
+pub fn read_words(alloc: Global, words: &[String]) -> Result<Plan, WordsFault>
+    ensures accepted { IfOk result (λ plan. plan_of (map string_bytes words.now) ≡ Ok plan) }
+    ensures within { IfOk result IsWithin }
+    ensures refused { IfErr result (IsRefusalOf (plan_of (map string_bytes words.now))) }
+{
+    match are_well_formed(alloc, words) {
+        Ok(true) => {}
+        Ok(false) => return Err(WordsFault::Usage(Field::Words)),
+        Err(_) => return Err(WordsFault::Mem),
+    }
+    let Ok(values) = values_of(alloc, words) else {
+        return Err(WordsFault::Mem);
+    };
+    match plan_by(values) {
+        Ok(plan) => Ok(plan),
+        Err(field) => Err(WordsFault::Usage(field)),
+    }
+}

@@ -1,0 +1,164 @@
+// What the words of the command line ask for.
+ghost use Rattle.std.specs.Prelude.{◌≡◌, ◌≤◌, IfOk, IfSome, option_map};
+ghost use Rattle.slider_program.specs.Plans.{job_named, tree_named, number_within, number_or, plan_by, values_as_text, kind_of, IsWithin};
+
+use record_text::{Kind, parse_number};
+use slider_session::Settings;
+
+/// The name of a job.
+#[derive(Clone, Copy, Debug, PartialEq, Eq)]
+pub enum JobName {
+    Count,
+    Index,
+    TopK,
+    Latest,
+}
+
+/// The name of a tree.
+#[derive(Clone, Copy, Debug, PartialEq, Eq)]
+pub enum TreeName {
+    Folding,
+    Random,
+    Rotating,
+    Coalescing,
+}
+
+impl TreeName {
+    /// The kind of window that the tree is for.
+    pub fn kind(self) -> Kind
+        ensures { result ≡ kind_of self }
+    {
+        match self {
+            TreeName::Folding => Kind::Buckets,
+            TreeName::Random => Kind::Document,
+            TreeName::Rotating => Kind::Circle,
+            TreeName::Coalescing => Kind::Growing,
+        }
+    }
+}
+
+/// What the words of the command line ask for. An option that is not given has its default.
+#[derive(Clone, Copy, Debug, PartialEq, Eq)]
+pub struct Plan {
+    pub job: JobName,
+    /// How many members `topk` keeps, from 1 to 1000.
+    pub k: u32,
+    pub tree: TreeName,
+    /// How the script is worked. `places` is the number of `--buckets`.
+    pub settings: Settings,
+    /// Whether the script is generated, and from which number.
+    pub seed: Option<u32>,
+    /// Whether the answer is ranked by its counts.
+    pub then: bool,
+}
+
+/// What the words of the command line are refused for.
+#[derive(Clone, Copy, Debug, PartialEq, Eq)]
+pub enum Field {
+    /// They are not well formed.
+    Words,
+    Job,
+    K,
+    /// The tree's name, or the job's own refusal of the tree.
+    Tree,
+    Buckets,
+}
+
+/// The values that the words give, each as it stands there.
+#[derive(Clone, Copy, Debug, PartialEq, Eq)]
+pub struct Values<'a> {
+    pub job: Option<&'a str>,
+    pub k: Option<&'a str>,
+    pub tree: Option<&'a str>,
+    pub buckets: Option<&'a str>,
+}
+
+/// The job of a name.
+fn job_named(name: &str) -> Option<JobName>
+    ensures { result ≡ job_named name.now }
+{
+    match name {
+        "count" => Some(JobName::Count),
+        "index" => Some(JobName::Index),
+        "topk" => Some(JobName::TopK),
+        "latest" => Some(JobName::Latest),
+        _ => None,
+    }
+}
+
+/// The tree of a name.
+fn tree_named(name: &str) -> Option<TreeName>
+    ensures { result ≡ tree_named name.now }
+{
+    match name {
+        "folding" => Some(TreeName::Folding),
+        "random" => Some(TreeName::Random),
+        "rotating" => Some(TreeName::Rotating),
+        "coalescing" => Some(TreeName::Coalescing),
+        _ => None,
+    }
+}
+
+/// The number from 1 to `most` that a text is.
+fn number_within(most: u32, text: &str) -> Option<u32>
+    ensures number { result ≡ number_within most text.now }
+    ensures within { IfSome result (λ n. (1 ≤ n) × (n ≤ most)) }
+{
+    match parse_number(text.as_bytes()) {
+        Some(n) if n >= 1 && n <= most => Some(n),
+        _ => None,
+    }
+}
+
+/// The number from 1 to `most` that a value is, or `default` where none is given.
+fn number_or(default: u32, most: u32, value: Option<&str>) -> Option<u32>
+    requires { (1 ≤ default) × (default ≤ most) }
+    ensures number { result ≡ number_or default most (option_map (λ text. text.now) value.entry) }
+    ensures within { IfSome result (λ n. (1 ≤ n) × (n ≤ most)) }
+{
+    match value {
+        Some(text) => number_within(most, text),
+        None => Some(default),
+    }
+}
+
+/// What the values ask for, or the first of them that is refused: one that must be given and is not, one that is not of
+/// its table, no number, or past its limits. Last, the job `latest` refuses the tree `rotating`, whose root joins the
+/// buckets in the order of their places.
+pub fn plan_by(values: Values<'_>) -> Result<Plan, Field>
+    ensures plan { result ≡ plan_by (values_as_text values.entry) }
+    ensures within { IfOk result IsWithin }
+{
+    let Some(name) = values.job else {
+        return Err(Field::Job);
+    };
+    let Some(job) = job_named(name) else {
+        return Err(Field::Job);
+    };
+    let Some(k) = number_or(10, 1000, values.k) else {
+        return Err(Field::K);
+    };
+    let Some(name) = values.tree else {
+        return Err(Field::Tree);
+    };
+    let Some(tree) = tree_named(name) else {
+        return Err(Field::Tree);
+    };
+    let Some(places) = number_or(24, 4096, values.buckets) else {
+        return Err(Field::Buckets);
+    };
+    if job == JobName::Latest && tree == TreeName::Rotating {
+        return Err(Field::Tree);
+    }
+    Ok(Plan {
+        job,
+        k,
+        tree,
+        settings: Settings {
+            places,
+            ..Settings::default()
+        },
+        seed: None,
+        then: false,
+    })
+}

@@ -1,0 +1,27 @@
+// The line for words that are refused.
+ghost use Rattle.std.specs.Prelude.{◌≡◌};
+ghost use Rattle.slider_program.specs.Usages.{line_for};
+
+use crate::plan::Field;
+
+/// Why there is no plan.
+#[derive(Clone, Copy, Debug, PartialEq, Eq)]
+pub enum WordsFault {
+    /// The words are refused for this field, the first that applies.
+    Usage(Field),
+    /// Want of memory.
+    Mem,
+}
+
+/// The line for a refused field: `usage` and its word.
+pub fn line_of_usage(field: Field) -> &'static [u8]
+    ensures { result.now ≡ line_for field }
+{
+    match field {
+        Field::Words => b"usage words\n",
+        Field::Job => b"usage job\n",
+        Field::K => b"usage k\n",
+        Field::Tree => b"usage tree\n",
+        Field::Buckets => b"usage buckets\n",
+    }
+}
