@@ -1,4 +1,1 @@
 pub mod Statuses
-pub mod WalkedWords
-pub mod ScanLaws
-pub mod PlanLaws

@@ -10,8 +10,8 @@ use Rattle.slider_session.specs.Output.{Meaning, output_of, ending_of}
 use Rattle.record_text.specs.Lines.{whole_lines}
 use Rattle.slider_session.specs.Serving.{Whole, AtFault, OfTaken}
 use Rattle.slider_program.specs.Words.{fault_line, end_line}
-use Rattle.slider_program.specs.declared.plan.JobName.{JobName}
-use Rattle.slider_program.specs.declared.plan.JobName.TheVariants.{Count, Index, Latest, TopK}
+use Rattle.program_words.specs.declared.plan.JobName.{JobName}
+use Rattle.program_words.specs.declared.plan.JobName.TheVariants.{Count, Index, Latest, TopK}
 use Rattle.slider_program.specs.Program.{Seen, Tries, Answered, AnsweredFor, most_script}
 
 module _ {V : Type 0} (j : Meaning V) (w : WindowState) (old new : Seen) (status line : ℕ) (why : Why) (served : Told old.left new.left (λ script after. Told old.held new.held (AtFault j w most_script line why script after))) where

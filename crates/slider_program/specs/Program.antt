@@ -6,8 +6,8 @@ use Rattle.record_text.specs.Script.{commands}
 use Rattle.window_manager.specs.Windows.{WindowState}
 use Rattle.slider_session.specs.Output.{Meaning, output_of, ending_of}
 use Rattle.slider_session.specs.Serving.{Whole, AtFault, OfTaken}
-use Rattle.slider_program.specs.declared.plan.JobName.{JobName}
-use Rattle.slider_program.specs.declared.plan.JobName.TheVariants.{Count, Index, Latest, TopK}
+use Rattle.program_words.specs.declared.plan.JobName.{JobName}
+use Rattle.program_words.specs.declared.plan.JobName.TheVariants.{Count, Index, Latest, TopK}
 use Rattle.slider_program.specs.Words.{fault_line, end_line}
 
 -- the limit of a script

@@ -5,12 +5,12 @@ ghost use Rattle.window_manager.specs.Windows.{empty_window};
 ghost use Rattle.slider_session.specs.Output.{meaning};
 ghost use Rattle.slider_session.specs.Serving.{FitsMeters};
 ghost use Rattle.slider_session.specs.Settings.{AreWithin};
-ghost use Rattle.slider_program.specs.Plans.{IsWithin, first_window, plan_of};
-ghost use Rattle.slider_program.specs.Usages.{line_for};
+ghost use Rattle.program_words.specs.Plans.{IsWithin, first_window, plan_of};
+ghost use Rattle.program_words.specs.Usages.{line_for};
 ghost use Rattle.slider_program.specs.Words.{fault_line};
 ghost use Rattle.slider_program.specs.Program.{Seen, Tries, Refused, Answered, AnsweredFor};
-ghost use Rattle.slider_program.specs.declared.plan.Plan.{Plan};
-ghost use Rattle.slider_program.specs.declared.plan.Field.{Field};
+ghost use Rattle.program_words.specs.declared.plan.Plan.{Plan};
+ghost use Rattle.program_words.specs.declared.plan.Field.{Field};
 
 use crate::options::read_words;
 use crate::plan::{JobName, Plan};

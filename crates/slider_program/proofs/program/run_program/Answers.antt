@@ -1,5 +1,5 @@
 use Rattle.slider_session.specs.Output.{meaning}
-use Rattle.slider_program.specs.Plans.{first_window}
+use Rattle.program_words.specs.Plans.{first_window}
 use Rattle.slider_program.proofs.Statuses.{untouched_for}
 use Rattle.slider_program.proofs.program.run_program.Goals as goal
 

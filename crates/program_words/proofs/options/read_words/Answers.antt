@@ -1,7 +1,7 @@
 use Rattle.std.proofs.Common.{◌∙◌, sym, map, string_bytes}
-use Rattle.slider_program.specs.Plans.{values_as_text}
-use Rattle.slider_program.proofs.PlanLaws.{plan_of-none, plan_of-some}
-use Rattle.slider_program.proofs.options.read_words.Goals as goal
+use Rattle.program_words.specs.Plans.{values_as_text}
+use Rattle.program_words.proofs.PlanLaws.{plan_of-none, plan_of-some}
+use Rattle.program_words.proofs.options.read_words.Goals as goal
 
 pub returns-in-Ok-false-clause-refused : goal.returns-in-Ok-false-clause-refused
 returns-in-Ok-false-clause-refused c = plan_of-none (map string_bytes c.args.words.now) (sym c.in-Ok-false.ensures ∙ c.in-Ok-false.field-0-test)

@@ -1,9 +1,9 @@
 -- What the words ask for, by their options.
 use Rattle.std.proofs.Common.{◌≡◌, true, false, refl, sym, ap, true≢false, List, Option, Some, None, Err}
 use Rattle.std.specs.Prelude.{is_some}
-use Rattle.slider_program.specs.declared.plan.Field.TheVariants as fields
-use Rattle.slider_program.specs.WellFormed.{Text, Item, items_of}
-use Rattle.slider_program.specs.Plans.{Given, demand, given_by, plan_by, plan_of}
+use Rattle.program_words.specs.declared.plan.Field.TheVariants as fields
+use Rattle.program_words.specs.WellFormed.{Text, Item, items_of}
+use Rattle.program_words.specs.Plans.{Given, demand, given_by, plan_by, plan_of}
 
 -- words that are not well formed
 pub plan_of-none : (words : List Text) → is_some (items_of words) ≡ false → plan_of words ≡ Err fields.Words

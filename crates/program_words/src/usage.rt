@@ -1,6 +1,6 @@
 // The line for words that are refused.
 ghost use Rattle.std.specs.Prelude.{◌≡◌};
-ghost use Rattle.slider_program.specs.Usages.{line_for};
+ghost use Rattle.program_words.specs.Usages.{line_for};
 
 use crate::plan::Field;
 
@@ -23,5 +23,7 @@ pub fn line_of_usage(field: Field) -> &'static [u8]
         Field::K => b"usage k\n",
         Field::Tree => b"usage tree\n",
         Field::Buckets => b"usage buckets\n",
+        Field::Parts => b"usage parts\n",
+        Field::Gen => b"usage gen\n",
     }
 }

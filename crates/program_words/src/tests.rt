@@ -72,19 +72,28 @@ fn each_refused_word_has_its_usage(rt: HostRuntime) -> Result<(), AllocError> {
     let none = answer(alloc, words.as_slice())?;
     assert!(rt; none == Err(b"usage job\n".as_slice()));
     assert!(rt; refuses(alloc, "--job=count", b"usage tree\n")?);
-    for line in [
-        "--job count --tree folding --parts 17",
-        "--job count --job count --tree folding",
-        "x",
-        "--tree=",
-    ] {
+    assert!(rt;
+        refuses(
+            alloc,
+            "--job count --tree folding --parts 17",
+            b"usage parts\n"
+        )?
+    );
+    assert!(rt;
+        refuses(
+            alloc,
+            "--job count --tree folding --gen seven",
+            b"usage gen\n"
+        )?
+    );
+    for line in ["--job count --job count --tree folding", "x", "--tree="] {
         assert!(rt; refuses(alloc, line, b"usage words\n")?);
     }
     Ok(())
 }
 
 #[test]
-fn latest_refuses_the_rotating_tree_last(rt: HostRuntime) -> Result<(), AllocError> {
+fn latest_refuses_the_rotating_tree(rt: HostRuntime) -> Result<(), AllocError> {
     let alloc = rt.alloc();
     let pair = "--job latest --tree rotating";
     assert!(rt; refuses(alloc, pair, b"usage tree\n")?);
@@ -180,6 +189,46 @@ fn numbers_stand_within_their_limits(rt: HostRuntime) -> Result<(), AllocError> 
     ] {
         assert!(rt; refuses(alloc, line, b"usage buckets\n")?);
     }
+    for line in [
+        "--job count --tree folding --parts 0",
+        "--job count --tree folding --parts=17",
+        "--job count --tree folding --parts 016",
+    ] {
+        assert!(rt; refuses(alloc, line, b"usage parts\n")?);
+    }
+    for line in [
+        "--job count --tree folding --gen 4294967296",
+        "--job count --tree folding --gen=-1",
+        "--job count --tree folding --gen 00",
+    ] {
+        assert!(rt; refuses(alloc, line, b"usage gen\n")?);
+    }
+    Ok(())
+}
+
+/// The parts and the seed that the words of a line ask for.
+fn parts_and_seed(alloc: Global, line: &str) -> Result<Option<(u32, Option<u32>)>, AllocError> {
+    match read(alloc, line)? {
+        Ok(plan) => Ok(Some((plan.settings.parts, plan.seed))),
+        Err(_) => Ok(None),
+    }
+}
+
+#[test]
+fn parts_and_seeds_stand_in_the_plan(rt: HostRuntime) -> Result<(), AllocError> {
+    let alloc = rt.alloc();
+    for (line, parts, seed) in [
+        ("--job count --tree folding", 1, None),
+        ("--job count --tree folding --parts 16", 16, None),
+        ("--job count --tree folding --parts=2 --gen 0", 2, Some(0)),
+        (
+            "--gen=4294967295 --job count --tree folding",
+            1,
+            Some(4294967295),
+        ),
+    ] {
+        assert!(rt; parts_and_seed(alloc, line)? == Some((parts, seed)));
+    }
     Ok(())
 }
 
@@ -233,7 +282,9 @@ fn words_that_are_not_well_formed(rt: HostRuntime) -> Result<(), AllocError> {
         "---job count --tree folding",
         "--job count --tree folding --work",
         "--job count --tree folding --workers 2",
-        "--job count --tree folding --gen=1",
+        "--job count --tree folding --gen=",
+        "--gen 1 --job count --tree folding --gen=1",
+        "--job count --tree folding --seed 1",
     ] {
         assert!(rt; refuses(alloc, line, b"usage words\n")?);
     }
@@ -263,8 +314,16 @@ fn the_first_refusal_in_order_is_said(rt: HostRuntime) -> Result<(), AllocError>
         ),
         ("--buckets 0 --job count", b"usage tree\n".as_slice()),
         (
-            "--buckets 0 --tree random --job count",
+            "--gen x --parts 0 --buckets 0 --tree random --job count",
             b"usage buckets\n".as_slice(),
+        ),
+        (
+            "--gen x --parts 0 --tree random --job count",
+            b"usage parts\n".as_slice(),
+        ),
+        (
+            "--gen x --job latest --tree rotating",
+            b"usage gen\n".as_slice(),
         ),
     ] {
         assert!(rt; refuses(alloc, line, usage)?);

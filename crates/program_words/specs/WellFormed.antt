@@ -10,7 +10,7 @@ Text = List ℕ
 
 -- the names of the options, each of which takes a value
 abbrev pub option_names : List Text
-option_names = codes "job" ∷ codes "k" ∷ codes "tree" ∷ codes "buckets" ∷ []
+option_names = codes "job" ∷ codes "k" ∷ codes "tree" ∷ codes "buckets" ∷ codes "parts" ∷ codes "gen" ∷ []
 
 unfoldable pub is_option : Text → Bool
 is_option name = list_any (λ n. bytes_eq name n) option_names

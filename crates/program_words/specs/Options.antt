@@ -3,7 +3,7 @@ use Rattle.std.specs.Prelude.{true, codes}
 use Rattle.std.specs.declared.option.Option.TheVariants.{Some}
 use Rattle.clap.specs.Walk.{Rule}
 use Rattle.clap.specs.Simple.{App, new_app, new_rule, on_top, with_rule}
-use Rattle.slider_program.specs.WellFormed.{Text}
+use Rattle.program_words.specs.WellFormed.{Text}
 
 -- an option with one value
 abbrev pub option_rule : Text → Rule
@@ -12,6 +12,6 @@ option_rule name = record (new_rule name) { long = Some name }
 -- the program with nothing but its options
 abbrev pub slider_app : App
 slider_app =
-    with_rule (with_rule (with_rule (with_rule
+    with_rule (with_rule (with_rule (with_rule (with_rule (with_rule
     (on_top (λ s. record s { no_binary_name = true; disable_help_flag = true }) (new_app (codes "slider")))
-    (option_rule (codes "job"))) (option_rule (codes "k"))) (option_rule (codes "tree"))) (option_rule (codes "buckets"))
+    (option_rule (codes "job"))) (option_rule (codes "k"))) (option_rule (codes "tree"))) (option_rule (codes "buckets"))) (option_rule (codes "parts"))) (option_rule (codes "gen"))

@@ -1,6 +1,6 @@
 use Rattle.std.proofs.Common.{◌≡◌, map, is_some, option_map, string_bytes, drop}
-use Rattle.slider_program.specs.WellFormed.{scan, items_of}
-use Rattle.slider_program.proofs.scan.are_well_formed.Given as goal
+use Rattle.program_words.specs.WellFormed.{scan, items_of}
+use Rattle.program_words.proofs.scan.are_well_formed.Given as goal
 
 -- the words that are left are well formed behind those that were read, exactly where all are
 abbrev pub invariant-words : goal.invariant-words

@@ -1,10 +1,10 @@
 -- The line for words that are refused.
 use Rattle.std.specs.Prelude.{◌≡◌, List, ℕ, ◌++◌, codes, Result, Err}
-use Rattle.slider_program.specs.declared.plan.Plan.{Plan}
-use Rattle.slider_program.specs.declared.plan.Field.{Field}
-use Rattle.slider_program.specs.declared.plan.Field.TheVariants.{Words, Job, K, Tree, Buckets}
-use Rattle.slider_program.specs.declared.usage.WordsFault.{WordsFault}
-use Rattle.slider_program.specs.declared.usage.WordsFault.TheVariants.{Usage, Mem}
+use Rattle.program_words.specs.declared.plan.Plan.{Plan}
+use Rattle.program_words.specs.declared.plan.Field.{Field}
+use Rattle.program_words.specs.declared.plan.Field.TheVariants.{Words, Job, K, Tree, Buckets, Parts, Gen}
+use Rattle.program_words.specs.declared.usage.WordsFault.{WordsFault}
+use Rattle.program_words.specs.declared.usage.WordsFault.TheVariants.{Usage, Mem}
 
 -- the word of a field
 abbrev pub usage_word : Field → List ℕ
@@ -13,6 +13,8 @@ usage_word Job = codes "job"
 usage_word K = codes "k"
 usage_word Tree = codes "tree"
 usage_word Buckets = codes "buckets"
+usage_word Parts = codes "parts"
+usage_word Gen = codes "gen"
 
 -- the line for a field
 abbrev pub line_for : Field → List ℕ

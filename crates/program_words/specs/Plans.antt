@@ -4,17 +4,16 @@ use Rattle.std.specs.declared.option.Option.TheVariants.{Some, None}
 use Rattle.definitions.specs.Numbers.{is_number, digits_value}
 use Rattle.record_text.specs.declared.kind.Kind.{Kind}
 use Rattle.record_text.specs.declared.kind.Kind.TheVariants as Kinds
-use Rattle.window_manager.specs.Windows.{WindowState, empty_window}
 use Rattle.slider_session.specs.Settings.{AreWithin}
-use Rattle.slider_program.specs.declared.plan.JobName.{JobName}
-use Rattle.slider_program.specs.declared.plan.JobName.TheVariants as jobs
-use Rattle.slider_program.specs.declared.plan.TreeName.{TreeName}
-use Rattle.slider_program.specs.declared.plan.TreeName.TheVariants as trees
-use Rattle.slider_program.specs.declared.plan.Plan.{Plan}
-use Rattle.slider_program.specs.declared.plan.Values.{Values}
-use Rattle.slider_program.specs.declared.plan.Field.{Field}
-use Rattle.slider_program.specs.declared.plan.Field.TheVariants as fields
-use Rattle.slider_program.specs.WellFormed.{Text, Item, items_of, value_of}
+use Rattle.program_words.specs.declared.plan.JobName.{JobName}
+use Rattle.program_words.specs.declared.plan.JobName.TheVariants as jobs
+use Rattle.program_words.specs.declared.plan.TreeName.{TreeName}
+use Rattle.program_words.specs.declared.plan.TreeName.TheVariants as trees
+use Rattle.program_words.specs.declared.plan.Plan.{Plan}
+use Rattle.program_words.specs.declared.plan.Values.{Values}
+use Rattle.program_words.specs.declared.plan.Field.{Field}
+use Rattle.program_words.specs.declared.plan.Field.TheVariants as fields
+use Rattle.program_words.specs.WellFormed.{Text, Item, items_of, value_of}
 
 -- the jobs and their names
 abbrev pub job_named : Text → Option JobName
@@ -44,6 +43,11 @@ abbrev pub number_or : ℕ → ℕ → Option Text → Option ℕ
 number_or default most None = Some default
 number_or default most (Some text) = number_within most text
 
+-- the seed that a value is, or that there is none
+abbrev pub seed_or_none : Option Text → Option (Option ℕ)
+seed_or_none None = Some None
+seed_or_none (Some text) = if is_number text then Some (Some (digits_value text)) else None
+
 -- what a value that must be given is in its table
 abbrev pub given : {A : Type 0} → (Text → Option A) → Option Text → Option A
 given named None = None
@@ -65,6 +69,8 @@ pub record Given : Type 0 where
   pub k : Option Text
   pub tree : Option Text
   pub buckets : Option Text
+  pub parts : Option Text
+  pub generate : Option Text
 
 -- what the values ask for, or the first field that is refused
 abbrev pub plan_by : Given → Result Plan Field
@@ -73,15 +79,17 @@ plan_by v =
     demand fields.K (number_or 10 1000 v.k) (λ k.
     demand fields.Tree (given tree_named v.tree) (λ tree.
     demand fields.Buckets (number_or 24 4096 v.buckets) (λ places.
+    demand fields.Parts (number_or 1 16 v.parts) (λ parts.
+    demand fields.Gen (seed_or_none v.generate) (λ seed.
     if joins_out_of_order job tree then Err fields.Tree
     else Ok (record {
       job = job;
       k = k;
       tree = tree;
-      settings = record { parts = 1; workers = 1; shards = 1; keep = 1; places = places; work = false; split = false; steal = false };
-      seed = None;
+      settings = record { parts = parts; workers = 1; shards = 1; keep = 1; places = places; work = false; split = false; steal = false };
+      seed = seed;
       then = false;
-    })))))
+    })))))))
 
 -- the values of the options among these
 abbrev pub given_by : List Item → Given
@@ -90,17 +98,18 @@ given_by items = record {
   k = value_of items (codes "k");
   tree = value_of items (codes "tree");
   buckets = value_of items (codes "buckets");
+  parts = value_of items (codes "parts");
+  generate = value_of items (codes "gen");
 }
 
 -- what the words ask for, or the first field that is refused
 unfoldable pub plan_of : List Text → Result Plan Field
 plan_of words = demand fields.Words (items_of words) (λ items. plan_by (given_by items))
 
--- the numbers of a plan are within their limits, and so far there is one part
+-- the numbers of a plan are within their limits
 pub record IsWithin (plan : Plan) : Type 0 where
   pub k : (1 ≤ plan.k) × (plan.k ≤ 1000)
   pub settings : AreWithin plan.settings
-  pub parts : plan.settings.parts ≡ 1
 
 -- the kind of window that a tree is for
 abbrev pub kind_of : TreeName → Kind
@@ -109,10 +118,6 @@ kind_of trees.Random = Kinds.Document
 kind_of trees.Rotating = Kinds.Circle
 kind_of trees.Coalescing = Kinds.Growing
 
--- the window that a script begins with: an empty one of that kind
-abbrev pub first_window : Plan → WindowState
-first_window plan = empty_window (kind_of plan.tree) plan.settings.places
-
 -- the values, as the code has them
 abbrev pub values_as_text : Values → Given
 values_as_text v = record {
@@ -120,4 +125,6 @@ values_as_text v = record {
   k = option_map (λ text. text.now) v.k;
   tree = option_map (λ text. text.now) v.tree;
   buckets = option_map (λ text. text.now) v.buckets;
+  parts = option_map (λ text. text.now) v.parts;
+  generate = option_map (λ text. text.now) v.generate;
 }

@@ -9,8 +9,8 @@ use Rattle.clap.specs.declared.parser.matches.ValueSource.TheVariants.{CommandLi
 use Rattle.clap.specs.Lexer.{long_of, long_of_rest, short_of, strip_byte}
 use Rattle.clap.specs.Walk.{Held, Row, Rule, Step, Waiting, Walk, after_flag, after_step, arg_by_id, arg_by_long, at_row, first_of, has_row, idle, long_met, long_or_other, next, nothing_held, option, option_word, reacted, reading_by, settled, settled_rows, short_or_plain, trailing, used, used_by_id, walk, walked, with_default, with_values, more_values, word_met}
 use Rattle.clap.specs.Simple.{filled, matches_of, with_index}
-use Rattle.slider_program.specs.WellFormed.{Text, Item, option_names, is_option, is_stray, begins_with_dash, name_and_value, option_in, with_item, is_met, begun, met_option, scan, items_of, value_of}
-use Rattle.slider_program.specs.Options.{option_rule, slider_app}
+use Rattle.program_words.specs.WellFormed.{Text, Item, option_names, is_option, is_stray, begins_with_dash, name_and_value, option_in, with_item, is_met, begun, met_option, scan, items_of, value_of}
+use Rattle.program_words.specs.Options.{option_rule, slider_app}
 
 -- ---- small facts
 

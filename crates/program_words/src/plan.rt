@@ -1,6 +1,6 @@
 // What the words of the command line ask for.
 ghost use Rattle.std.specs.Prelude.{◌≡◌, ◌≤◌, IfOk, IfSome, option_map};
-ghost use Rattle.slider_program.specs.Plans.{job_named, tree_named, number_within, number_or, plan_by, values_as_text, kind_of, IsWithin};
+ghost use Rattle.program_words.specs.Plans.{job_named, tree_named, number_within, number_or, seed_or_none, plan_by, values_as_text, kind_of, IsWithin};
 
 use record_text::{Kind, parse_number};
 use slider_session::Settings;
@@ -62,6 +62,8 @@ pub enum Field {
     /// The tree's name, or the job's own refusal of the tree.
     Tree,
     Buckets,
+    Parts,
+    Gen,
 }
 
 /// The values that the words give, each as it stands there.
@@ -71,6 +73,8 @@ pub struct Values<'a> {
     pub k: Option<&'a str>,
     pub tree: Option<&'a str>,
     pub buckets: Option<&'a str>,
+    pub parts: Option<&'a str>,
+    pub generate: Option<&'a str>,
 }
 
 /// The job of a name.
@@ -122,6 +126,16 @@ fn number_or(default: u32, most: u32, value: Option<&str>) -> Option<u32>
     }
 }
 
+/// The seed that a value is, or that there is none.
+fn seed_or_none(value: Option<&str>) -> Option<Option<u32>>
+    ensures { result ≡ seed_or_none (option_map (λ text. text.now) value.entry) }
+{
+    match value {
+        Some(text) => parse_number(text.as_bytes()).map(Some),
+        None => Some(None),
+    }
+}
+
 /// What the values ask for, or the first of them that is refused: one that must be given and is not, one that is not of
 /// its table, no number, or past its limits. Last, the job `latest` refuses the tree `rotating`, whose root joins the
 /// buckets in the order of their places.
@@ -147,6 +161,12 @@ pub fn plan_by(values: Values<'_>) -> Result<Plan, Field>
     let Some(places) = number_or(24, 4096, values.buckets) else {
         return Err(Field::Buckets);
     };
+    let Some(parts) = number_or(1, 16, values.parts) else {
+        return Err(Field::Parts);
+    };
+    let Some(seed) = seed_or_none(values.generate) else {
+        return Err(Field::Gen);
+    };
     if job == JobName::Latest && tree == TreeName::Rotating {
         return Err(Field::Tree);
     }
@@ -155,10 +175,11 @@ pub fn plan_by(values: Values<'_>) -> Result<Plan, Field>
         k,
         tree,
         settings: Settings {
+            parts,
             places,
             ..Settings::default()
         },
-        seed: None,
+        seed,
         then: false,
     })
 }

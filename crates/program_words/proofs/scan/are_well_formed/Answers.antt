@@ -1,6 +1,6 @@
 use Rattle.std.proofs.Common.{◌≡◌, ◌∙◌, ◌&&◌, suc, refl, sym, ap, false, List, ◌∷◌, map, drop, drop-cons, string_bytes, String, Global, is_some, option_map}
-use Rattle.slider_program.specs.WellFormed.{Text, scan, items_of}
-use Rattle.slider_program.proofs.scan.are_well_formed.Goals as goal
+use Rattle.program_words.specs.WellFormed.{Text, scan, items_of}
+use Rattle.program_words.proofs.scan.are_well_formed.Goals as goal
 
 pub words-init : goal.words-init
 unfolding items_of

@@ -1,10 +1,10 @@
 use Rattle.std.proofs.Common.{◌≡◌, ◌∙◌, ap, codes, true, List, map, string_bytes}
 use Rattle.clap.specs.Words.{App, app_of, first_of, first_value, found_of, is_simple, matches_of, rows_of}
 use Rattle.clap.proofs.WalkLemmas.{first_value-rows}
-use Rattle.slider_program.specs.WellFormed.{Text, value_of}
-use Rattle.slider_program.specs.Options.{slider_app}
-use Rattle.slider_program.proofs.WalkedWords.{value_found}
-use Rattle.slider_program.proofs.options.values_of.Goals as goal
+use Rattle.program_words.specs.WellFormed.{Text, value_of}
+use Rattle.program_words.specs.Options.{slider_app}
+use Rattle.program_words.proofs.WalkedWords.{value_found}
+use Rattle.program_words.proofs.options.values_of.Goals as goal
 
 pub returns : goal.returns
 returns c = λ items is.
@@ -20,4 +20,6 @@ returns c = λ items is.
       k = (c.get_str-2.ensures ∙ value (codes "k")) i;
       tree = (c.get_str-3.ensures ∙ value (codes "tree")) i;
       buckets = (c.get_str-4.ensures ∙ value (codes "buckets")) i;
+      parts = (c.get_str-5.ensures ∙ value (codes "parts")) i;
+      generate = (c.get_str-6.ensures ∙ value (codes "gen")) i;
     }

@@ -1,8 +1,8 @@
 use Rattle.std.proofs.Common.{◌∙◌, ◌+◌, Some, take, ap, arith}
 use Rattle.record_text.proofs.AheadLaws.{rest_is}
-use Rattle.slider_program.specs.WellFormed.{Text}
-use Rattle.slider_program.proofs.ScanLaws.{equals_at, no_equals}
-use Rattle.slider_program.proofs.scan.name_and_value.Goals as goal
+use Rattle.program_words.specs.WellFormed.{Text}
+use Rattle.program_words.proofs.ScanLaws.{equals_at, no_equals}
+use Rattle.program_words.proofs.scan.name_and_value.Goals as goal
 
 pub returns-in-Some : goal.returns-in-Some
 returns-in-Some c =

@@ -5,7 +5,7 @@ use Rattle.std.specs.List.{list_any, position_or_len}
 use Rattle.std.specs.Borrow.{Bor}
 use Rattle.std.proofs.lemmas.List.{map-append}
 use Rattle.std.proofs.lemmas.List.Sums.{position_or_len_is}
-use Rattle.slider_program.specs.WellFormed.{Text, Item, is_option, is_met, name_and_value, with_item, begun, met_option}
+use Rattle.program_words.specs.WellFormed.{Text, Item, is_option, is_met, name_and_value, with_item, begun, met_option}
 
 not_true : (b : Bool) → (b ≡ true → ⊥) → b ≡ false
 not_true true wrong = absurd (wrong refl)

@@ -1,10 +1,10 @@
 // The values of the options of the command line, as `clap` reads them, and the plan that the words ask for.
 ghost use Rattle.std.specs.Prelude.{◌≡◌, ℕ, List, codes, IfErr, IfOk, Ok, Some, None, false, map, string_bytes};
 ghost use Rattle.clap.specs.Words.{app_of, new_rule, rule_of};
-ghost use Rattle.slider_program.specs.WellFormed.{Item, items_of};
-ghost use Rattle.slider_program.specs.Plans.{given_by, plan_of, values_as_text, IsWithin};
-ghost use Rattle.slider_program.specs.Usages.{IsRefusalOf};
-ghost use Rattle.slider_program.specs.Options.{slider_app};
+ghost use Rattle.program_words.specs.WellFormed.{Item, items_of};
+ghost use Rattle.program_words.specs.Plans.{given_by, plan_of, values_as_text, IsWithin};
+ghost use Rattle.program_words.specs.Usages.{IsRefusalOf};
+ghost use Rattle.program_words.specs.Options.{slider_app};
 
 use crate::plan::{Field, Plan, Values, plan_by};
 use crate::scan::are_well_formed;
@@ -31,7 +31,9 @@ fn command<'a>(alloc: Global) -> Result<Command<'a>, AllocError>
         .arg(option(alloc, "job"))?
         .arg(option(alloc, "k"))?
         .arg(option(alloc, "tree"))?
-        .arg(option(alloc, "buckets"))
+        .arg(option(alloc, "buckets"))?
+        .arg(option(alloc, "parts"))?
+        .arg(option(alloc, "gen"))
 }
 
 /// The values that a well formed list gives the options.
@@ -45,11 +47,13 @@ fn values_of<'a>(alloc: Global, words: &'a [String]) -> Result<Values<'a>, Error
         k: matches.get_str("k"),
         tree: matches.get_str("tree"),
         buckets: matches.get_str("buckets"),
+        parts: matches.get_str("parts"),
+        generate: matches.get_str("gen"),
     })
 }
 
 /// Reads the words of the command line: what they ask for, or the first field that they are refused for, in the order
-/// words, job, k, tree, buckets, and last tree for the pairing that the job refuses. Only a well formed list goes to
+/// words, job, k, tree, buckets, parts, gen, and last tree for the pairing that the job refuses. Only a well formed list goes to
 /// `clap`, whose refusal of one can only be want of memory.
 pub fn read_words(alloc: Global, words: &[String]) -> Result<Plan, WordsFault>
     ensures accepted { IfOk result (λ plan. plan_of (map string_bytes words.now) ≡ Ok plan) }

@@ -1,6 +1,6 @@
 // Whether the words of the command line are well formed.
 ghost use Rattle.std.specs.Prelude.{◌≡◌, ◌&&◌, not, List, ℕ, ◌∷◌, IfOk, Some, map, is_some, option_map, string_bytes};
-ghost use Rattle.slider_program.specs.WellFormed.{is_stray, begins_with_dash, is_option, is_met, behind_dashes, name_and_value, as_texts, met_option, scan, items_of};
+ghost use Rattle.program_words.specs.WellFormed.{is_stray, begins_with_dash, is_option, is_met, behind_dashes, name_and_value, as_texts, met_option, scan, items_of};
 
 use memchr::memchr;
 use std::alloc::{AllocError, Global};
@@ -34,6 +34,8 @@ fn is_option(name: &[u8]) -> bool
         || name == b"k".as_slice()
         || name == b"tree".as_slice()
         || name == b"buckets".as_slice()
+        || name == b"parts".as_slice()
+        || name == b"gen".as_slice()
 }
 
 /// What stands behind the two dashes at a word's front.

@@ -1,0 +1,3 @@
+pub mod WalkedWords
+pub mod ScanLaws
+pub mod PlanLaws

@@ -1,0 +1,4 @@
+pub mod WellFormed
+pub mod Plans
+pub mod Usages
+pub mod Options
