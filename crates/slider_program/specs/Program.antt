@@ -1,18 +1,27 @@
 -- What a call of the program promises.
-use Rattle.std.specs.Prelude.{◌≡◌, ℕ, List, ◌++◌, Option, ◌⊎◌}
+use Rattle.std.specs.Prelude.{◌≡◌, ℕ, List, ◌++◌, Option, option_map, ◌⊎◌}
+use Rattle.std.specs.declared.option.Option.TheVariants.{Some, None}
 use Rattle.definitions.specs.Outside.{Rose, Told, GainsFront}
 use Rattle.record_text.specs.declared.script_fault.Why.{Why}
 use Rattle.record_text.specs.Script.{commands}
-use Rattle.window_manager.specs.Windows.{WindowState}
+use Rattle.window_manager.specs.Windows.{WindowState, empty_window}
 use Rattle.slider_session.specs.Output.{Meaning, output_of, ending_of}
 use Rattle.slider_session.specs.Serving.{Whole, AtFault, OfTaken}
 use Rattle.program_words.specs.declared.plan.JobName.{JobName}
 use Rattle.program_words.specs.declared.plan.JobName.TheVariants.{Count, Index, Latest, TopK}
+use Rattle.program_words.specs.declared.plan.Plan.{Plan}
+use Rattle.program_words.specs.Plans.{kind_of}
+use Rattle.script_generator.specs.Generated.{generated}
 use Rattle.slider_program.specs.Words.{fault_line, end_line}
+use Rattle.slider_program.specs.Summaries.{most_script, summary_of}
 
--- the limit of a script
-abbrev pub most_script : ℕ
-most_script = 4294967296
+-- the window that a script begins with: an empty one, of the kind that the tree is for
+abbrev pub first_window : Plan → WindowState
+first_window plan = empty_window (kind_of plan.tree) plan.settings.places
+
+-- the script that a plan has generated, where it has a seed
+abbrev pub generated_by : Plan → Option (List ℕ)
+generated_by plan = option_map (λ seed. generated plan.job plan.tree seed) plan.seed
 
 -- what was seen of the devices before a call and after it: the bytes that the source had left, and that `out` and `err`
 -- held, and their counts of faults
@@ -37,6 +46,17 @@ pub record Refused (line : List ℕ) (old new : Seen) (status : ℕ) : Type 0 wh
   pub tried : status ≡ 2 → Tries line old.said new.said old.err_faults new.err_faults
   pub front : Told old.said new.said (GainsFront line)
 
+-- an output is summed up by a line: what each status says of `out`, which held `before` and holds `now`
+pub record SumsUp (line : List ℕ) (before now : Option (List ℕ)) (faults later status : ℕ) : Type 0 where
+  -- the line was written
+  pub done : status ≡ 0 → Told before now (λ old new. new ≡ old ++ line)
+  -- a write failed
+  pub write : status ≡ 5 → Rose faults later
+  -- whatever the status, a front of the line was written
+  pub front : Told before now (GainsFront line)
+  -- there is no other status; 6 is want of memory
+  pub known : (status ≡ 0) ⊎ (status ≡ 5) ⊎ (status ≡ 6)
+
 module _ {V : Type 0} (j : Meaning V) (w : WindowState) where
   -- the words were accepted: what each status says of the script that the source had left, of its output over the job and
   -- from the window on, and of `err`
@@ -55,10 +75,21 @@ module _ {V : Type 0} (j : Meaning V) (w : WindowState) where
     -- there is no other status; 6 is want of memory
     pub known : (status ≡ 0) ⊎ (status ≡ 3) ⊎ (status ≡ 4) ⊎ (status ≡ 5) ⊎ (status ≡ 6)
 
-module _ {C I L T : Type 0} (w : WindowState) (count : Meaning C) (index : Meaning I) (latest : Meaning L) (topk : ℕ → Meaning T) (k : ℕ) where
-  -- what was answered from a window on, over the job of a name, of these four
+  -- a generated script was summed up: neither the source nor `err` was touched
+  pub record Summed (script : List ℕ) (old new : Seen) (status : ℕ) : Type 0 where
+    pub source : (new.left ≡ old.left) × (new.source_faults ≡ old.source_faults)
+    pub err : (new.said ≡ old.said) × (new.err_faults ≡ old.err_faults)
+    pub sums : SumsUp (summary_of j w script) old.held new.held old.out_faults new.out_faults status
+
+  -- what was answered: the script that the source had left, or the summary of a generated one
+  abbrev pub AnsweredBy : Option (List ℕ) → Seen → Seen → ℕ → Type 0
+  AnsweredBy None old new status = Answered old new status
+  AnsweredBy (Some script) old new status = Summed script old new status
+
+module _ {C I L T : Type 0} (w : WindowState) (script : Option (List ℕ)) (count : Meaning C) (index : Meaning I) (latest : Meaning L) (topk : ℕ → Meaning T) (k : ℕ) where
+  -- what was answered from a window on, over the job of a name, of these four; `script` is the generated one, if any
   abbrev pub AnsweredFor : JobName → Seen → Seen → ℕ → Type 0
-  AnsweredFor Count old new status = Answered count w old new status
-  AnsweredFor Index old new status = Answered index w old new status
-  AnsweredFor Latest old new status = Answered latest w old new status
-  AnsweredFor TopK old new status = Answered (topk k) w old new status
+  AnsweredFor Count old new status = AnsweredBy count w script old new status
+  AnsweredFor Index old new status = AnsweredBy index w script old new status
+  AnsweredFor Latest old new status = AnsweredBy latest w script old new status
+  AnsweredFor TopK old new status = AnsweredBy (topk k) w script old new status

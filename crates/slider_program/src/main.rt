@@ -5,18 +5,17 @@
 mod basic_jobs;
 #[cfg(test)]
 mod kind_tests;
-mod options;
 #[cfg(test)]
 mod plain_tests;
-mod plan;
 mod program;
-mod scan;
+#[cfg(test)]
+mod sheet_tests;
+mod summary;
 #[cfg(test)]
 mod tests;
-mod usage;
-mod words;
 #[cfg(test)]
-mod words_tests;
+mod window_tests;
+mod words;
 
 ghost use Rattle.std.specs.Prelude.{IfOk};
 ghost use Rattle.slider_session.specs.Serving.{FitsMeters};

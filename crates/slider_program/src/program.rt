@@ -5,19 +5,20 @@ ghost use Rattle.window_manager.specs.Windows.{empty_window};
 ghost use Rattle.slider_session.specs.Output.{meaning};
 ghost use Rattle.slider_session.specs.Serving.{FitsMeters};
 ghost use Rattle.slider_session.specs.Settings.{AreWithin};
-ghost use Rattle.program_words.specs.Plans.{IsWithin, first_window, plan_of};
+ghost use Rattle.program_words.specs.Plans.{IsWithin, plan_of};
 ghost use Rattle.program_words.specs.Usages.{line_for};
 ghost use Rattle.slider_program.specs.Words.{fault_line};
-ghost use Rattle.slider_program.specs.Program.{Seen, Tries, Refused, Answered, AnsweredFor};
+ghost use Rattle.slider_program.specs.Program.{Tries, Refused, SumsUp, Answered, AnsweredBy, AnsweredFor, first_window, generated_by};
+ghost use Rattle.slider_program.specs.Summaries.{summary_of};
 ghost use Rattle.program_words.specs.declared.plan.Plan.{Plan};
 ghost use Rattle.program_words.specs.declared.plan.Field.{Field};
 
-use crate::options::read_words;
-use crate::plan::{JobName, Plan};
-use crate::usage::{WordsFault, line_of_usage};
+use crate::summary::summary_of;
 use crate::words::line_of_fault;
 use job_laws::{Job, JobSet, MeterRow};
+use program_words::{JobName, Plan, WordsFault, line_of_usage, read_words};
 use record_text::{Kind, ScriptFault};
+use script_generator::generate;
 use slider_io::{Gate, Sink, Source, WriteFault, put_all};
 use slider_session::{Halt, Settings, serve};
 use std::alloc::Global;
@@ -51,7 +52,7 @@ fn status_of_fault<E: Sink>(alloc: Global, err: &mut E, fault: ScriptFault) -> u
 }
 
 /// Serves the script that the source has left with a job, from the empty window of a kind on, and answers the status.
-fn run_job<J: Job, S: Source, K: Sink, E: Sink>(
+fn serve_script<J: Job, S: Source, K: Sink, E: Sink>(
     alloc: Global,
     job: J,
     settings: Settings,
@@ -62,7 +63,6 @@ fn run_job<J: Job, S: Source, K: Sink, E: Sink>(
     meters: &mut MeterRow<J::Meter>,
 ) -> u8
     requires settings { AreWithin settings }
-    requires parts { settings.parts ≡ 1 }
     requires meters { FitsMeters meters.old.lanes.items meters.old.parts.items }
     ensures answered { Answered (meaning (J.accepts (J.setting job)) (J.emits (J.setting job)) (J.joined (J.setting job)) (J.text (J.setting job))) (empty_window kind settings.places)
         record { left = S.left source.old; held = K.held out.old; said = E.held err.old; source_faults = S.faults source.old; out_faults = K.faults out.old; err_faults = E.faults err.old }
@@ -78,7 +78,60 @@ fn run_job<J: Job, S: Source, K: Sink, E: Sink>(
     }
 }
 
-/// Serves the script that the source has left with the job and the window that a plan asks for.
+/// Writes the summary of a generated script, and answers the status.
+fn sum_up<J: Job, K: Sink>(
+    alloc: Global,
+    job: J,
+    settings: Settings,
+    kind: Kind,
+    script: Vec<u8>,
+    out: &mut K,
+    meters: &mut MeterRow<J::Meter>,
+) -> u8
+    requires settings { AreWithin settings }
+    requires meters { FitsMeters meters.old.lanes.items meters.old.parts.items }
+    ensures summed { SumsUp (summary_of (meaning (J.accepts (J.setting job)) (J.emits (J.setting job)) (J.joined (J.setting job)) (J.text (J.setting job))) (empty_window kind settings.places) script.items)
+        (K.held out.old) (K.held out.new) (K.faults out.old) (K.faults out.new) result }
+    ensures meters { FitsMeters meters.new.lanes.items meters.new.parts.items }
+{
+    match summary_of(alloc, job, settings, kind, script, meters) {
+        Ok(line) => match put_all(out, line.as_bytes()) {
+            Ok(()) => 0,
+            Err(WriteFault::Failed) => 5,
+            Err(WriteFault::Mem) => 6,
+        },
+        Err(_) => 6,
+    }
+}
+
+/// Serves the script that the source has left with a job, or sums up the generated one, as a plan asks for.
+fn run_job<J: Job, S: Source, K: Sink, E: Sink>(
+    alloc: Global,
+    job: J,
+    plan: Plan,
+    source: &mut S,
+    out: &mut K,
+    err: &mut E,
+    meters: &mut MeterRow<J::Meter>,
+) -> u8
+    requires within { IsWithin plan }
+    requires meters { FitsMeters meters.old.lanes.items meters.old.parts.items }
+    ensures answered { AnsweredBy (meaning (J.accepts (J.setting job)) (J.emits (J.setting job)) (J.joined (J.setting job)) (J.text (J.setting job))) (first_window plan) (generated_by plan)
+        record { left = S.left source.old; held = K.held out.old; said = E.held err.old; source_faults = S.faults source.old; out_faults = K.faults out.old; err_faults = E.faults err.old }
+        record { left = S.left source.new; held = K.held out.new; said = E.held err.new; source_faults = S.faults source.new; out_faults = K.faults out.new; err_faults = E.faults err.new } result }
+    ensures meters { FitsMeters meters.new.lanes.items meters.new.parts.items }
+{
+    let kind = plan.tree.kind();
+    let Some(seed) = plan.seed else {
+        return serve_script(alloc, job, plan.settings, kind, source, out, err, meters);
+    };
+    match generate(alloc, &plan, seed) {
+        Ok(script) => sum_up(alloc, job, plan.settings, kind, script, out, meters),
+        Err(_) => 6,
+    }
+}
+
+/// Runs the job that a plan names.
 fn run_plan<S: Source, K: Sink, E: Sink, B: JobSet>(
     alloc: Global,
     plan: Plan,
@@ -90,7 +143,7 @@ fn run_plan<S: Source, K: Sink, E: Sink, B: JobSet>(
 ) -> u8
     requires within { IsWithin plan }
     requires meters { FitsMeters meters.old.lanes.items meters.old.parts.items }
-    ensures answered { AnsweredFor (first_window plan)
+    ensures answered { AnsweredFor (first_window plan) (generated_by plan)
         (meaning (B.Count.accepts 0) (B.Count.emits 0) (B.Count.joined 0) (B.Count.text 0))
         (meaning (B.Index.accepts 0) (B.Index.emits 0) (B.Index.joined 0) (B.Index.text 0))
         (meaning (B.Latest.accepts 0) (B.Latest.emits 0) (B.Latest.joined 0) (B.Latest.text 0))
@@ -99,56 +152,19 @@ fn run_plan<S: Source, K: Sink, E: Sink, B: JobSet>(
         record { left = S.left source.new; held = K.held out.new; said = E.held err.new; source_faults = S.faults source.new; out_faults = K.faults out.new; err_faults = E.faults err.new } result }
     ensures meters { FitsMeters meters.new.lanes.items meters.new.parts.items }
 {
-    let kind = plan.tree.kind();
-    let settings = plan.settings;
     match plan.job {
-        JobName::Count => run_job(
-            alloc,
-            jobs.count(),
-            settings,
-            kind,
-            source,
-            out,
-            err,
-            meters,
-        ),
-        JobName::Index => run_job(
-            alloc,
-            jobs.index(),
-            settings,
-            kind,
-            source,
-            out,
-            err,
-            meters,
-        ),
-        JobName::Latest => run_job(
-            alloc,
-            jobs.latest(),
-            settings,
-            kind,
-            source,
-            out,
-            err,
-            meters,
-        ),
-        JobName::TopK => run_job(
-            alloc,
-            jobs.topk(plan.k),
-            settings,
-            kind,
-            source,
-            out,
-            err,
-            meters,
-        ),
+        JobName::Count => run_job(alloc, jobs.count(), plan, source, out, err, meters),
+        JobName::Index => run_job(alloc, jobs.index(), plan, source, out, err, meters),
+        JobName::Latest => run_job(alloc, jobs.latest(), plan, source, out, err, meters),
+        JobName::TopK => run_job(alloc, jobs.topk(plan.k), plan, source, out, err, meters),
     }
 }
 
 /// Reads the words, takes the named job from `jobs`, serves the script that `source` has left from the empty window of
 /// the named tree on, and answers the status: 0 done, 2 words refused, 3 a fault of the script, 4 a read failed, 5 a write
-/// failed, 6 want of memory. The answers go to `out`, and the line for a refusal or a fault to `err`. Of the jobs it knows
-/// their laws alone.
+/// failed, 6 want of memory. The answers go to `out`, and the line for a refusal or a fault to `err`. With a seed it leaves
+/// `source` alone, serves the generated script, and writes to `out` the summary of the answers in their place. Of the jobs
+/// it knows their laws alone.
 pub fn run_program<Q: Threads + Wait + Sync, S: Source, K: Sink, E: Sink, B: JobSet, G: Gate>(
     alloc: Global,
     _rt: &Q,
@@ -165,7 +181,7 @@ pub fn run_program<Q: Threads + Wait + Sync, S: Source, K: Sink, E: Sink, B: Job
         record { left = S.left source.old; held = K.held out.old; said = E.held err.old; source_faults = S.faults source.old; out_faults = K.faults out.old; err_faults = E.faults err.old }
         record { left = S.left source.new; held = K.held out.new; said = E.held err.new; source_faults = S.faults source.new; out_faults = K.faults out.new; err_faults = E.faults err.new } result }
     ensures untouched { (field : Field) → plan_of (map string_bytes words.now) ≡ Err field → (meters.new ≡ meters.old) }
-    ensures answered { (plan : Plan) → plan_of (map string_bytes words.now) ≡ Ok plan → AnsweredFor (first_window plan)
+    ensures answered { (plan : Plan) → plan_of (map string_bytes words.now) ≡ Ok plan → AnsweredFor (first_window plan) (generated_by plan)
         (meaning (B.Count.accepts 0) (B.Count.emits 0) (B.Count.joined 0) (B.Count.text 0))
         (meaning (B.Index.accepts 0) (B.Index.emits 0) (B.Index.joined 0) (B.Index.text 0))
         (meaning (B.Latest.accepts 0) (B.Latest.emits 0) (B.Latest.joined 0) (B.Latest.text 0))

@@ -77,7 +77,7 @@ fn gives<Q: Threads + Wait + Sync>(
 }
 
 /// Whether the program, called with the words of a line, writes this and says this.
-fn line_gives<Q: Threads + Wait + Sync>(
+pub fn line_gives<Q: Threads + Wait + Sync>(
     rt: &Q,
     alloc: Global,
     line: &str,
@@ -92,7 +92,7 @@ fn line_gives<Q: Threads + Wait + Sync>(
 }
 
 /// The bytes of `front`, then `count` times the byte `middle`, then `back`.
-fn around(
+pub fn around(
     alloc: Global,
     front: &[u8],
     middle: u8,
@@ -281,51 +281,6 @@ fn refused_words_have_their_usage(rt: HostRuntime) -> Result<(), AllocError> {
         assert!(rt; ran.out.is_empty());
         assert!(rt; ran.err.as_slice() == usage.as_bytes());
     }
-    Ok(())
-}
-
-#[test]
-fn a_circle_forgets_the_oldest_bucket(rt: HostRuntime) -> Result<(), AllocError> {
-    assert!(rt;
-        line_gives(
-            &rt,
-            rt.alloc(),
-            "--job count --tree rotating --buckets 2",
-            b"bucket 1\na\nbucket 1\nb\nbucket 1\nc\nrun\n",
-            b"# run 1 keys 2\nb\t1\nc\t1\n",
-            b""
-        )?
-    );
-    Ok(())
-}
-
-#[test]
-fn the_latest_value_wins_through_drops(rt: HostRuntime) -> Result<(), AllocError> {
-    assert!(rt;
-        line_gives(
-            &rt,
-            rt.alloc(),
-            "--job latest --tree folding",
-            b"bucket 1\nk\t1\nbucket 1\nk\t2\nrun\ndrop 1\nrun\n",
-            b"# run 1 keys 1\nk\t2\n# run 2 keys 1\nk\t2\n",
-            b""
-        )?
-    );
-    Ok(())
-}
-
-#[test]
-fn an_edited_document_is_answered(rt: HostRuntime) -> Result<(), AllocError> {
-    assert!(rt;
-        line_gives(
-            &rt,
-            rt.alloc(),
-            "--job count --tree random",
-            b"load 2\na\nb\nrun\nedit 0 1 1\nc\nrun\n",
-            b"# run 1 keys 2\na\t1\nb\t1\n# run 2 keys 2\nb\t1\nc\t1\n",
-            b""
-        )?
-    );
     Ok(())
 }
 

@@ -1,4 +1,5 @@
 pub mod Accepted
 pub mod Tables
+pub mod PartRoots
 pub mod Stepping
 pub mod Walks

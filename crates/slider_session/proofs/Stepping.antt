@@ -10,8 +10,7 @@ use Rattle.record_text.specs.declared.script_fault.ScriptFault.{ScriptFault}
 use Rattle.record_text.specs.Script.{Ending, Faulty}
 use Rattle.window_manager.specs.Windows.{WindowState, window_after, refusal_of}
 use Rattle.window_manager.specs.Slides.{Slid, slid_after}
-use Rattle.window_manager.specs.declared.fault.WindowFault.{WindowFault}
-use Rattle.slider_session.specs.Output.{Meaning, Outcome, after_bytes, ended_by, unless_refused, on_command}
+use Rattle.slider_session.specs.Output.{Meaning, Outcome, after_bytes, unless_refused, on_command}
 use Rattle.slider_session.specs.Calls.{Held, state_of, accepted_of, Changes, Answers, Steps, next_piece}
 use Rattle.slider_session.specs.declared.halt.Halt.{Halt}
 use Rattle.slider_session.specs.declared.halt.Halt.TheVariants as Halts

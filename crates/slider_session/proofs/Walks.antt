@@ -1,16 +1,14 @@
 -- How serving goes on from command to command, and how each of its ends shows the script's output.
-use Rattle.std.proofs.Common.{◌≡◌, ◌≢◌, ℕ, ◌+◌, ◌<◌, ◌≤◌, Bool, true, false, List, [], ◌∷◌, ◌++◌, length, take, refl, sym, ap, ◌∙◌, subst, arith, inl, inr, ◌⊎◌, append-nil, append_assoc}
-use Rattle.std.specs.Prelude.{Option, Result, Ok, Err, nat_le}
+use Rattle.std.proofs.Common.{◌≡◌, ◌≢◌, ℕ, ◌+◌, ◌<◌, Bool, true, false, List, [], ◌++◌, length, refl, sym, ap, ◌∙◌, subst, arith, inl, inr, ◌⊎◌, append-nil, append_assoc}
+use Rattle.std.specs.Prelude.{Option, Ok, Err}
 use Rattle.std.specs.declared.option.Option.TheVariants.{Some, None}
-use Rattle.std.proofs.lemmas.Bool.Decides.{nat_tests}
-use Rattle.std.proofs.lemmas.List.{take_all}
 use Rattle.definitions.specs.Outside.{Told, IsFront, GainsFront}
 use Rattle.definitions.proofs.ToldBytes.{told_same, told_then, told_with}
 use Rattle.record_text.specs.declared.command.Command.{Command}
 use Rattle.record_text.specs.declared.script_fault.ScriptFault.{ScriptFault}
 use Rattle.record_text.specs.declared.script_fault.Why.TheVariants.{Read, Mem}
 use Rattle.record_text.specs.declared.reading.Reading.{Reading}
-use Rattle.record_text.specs.Lines.{EndsLine, HasNoLine, pieces, whole_lines}
+use Rattle.record_text.specs.Lines.{EndsLine, HasNoLine, whole_lines}
 use Rattle.record_text.specs.Script.{Script, Ending, Done, Faulty, ACommand, commands, from_line, with_command}
 use Rattle.record_text.specs.Reading.{Sound, Uses, NextTold, NextTaken, to_come}
 use Rattle.record_text.proofs.LineLaws.{whole_lines-used}

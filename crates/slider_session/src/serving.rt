@@ -26,9 +26,9 @@ fn halt_of(fault: ScriptFault) -> Halt
     }
 }
 
-/// Serves the script that a source has left, from the empty window of a kind on: each command is carried out before the next one is read, so each run is
-/// answered before the reader takes more than its line. It stops at the script's first fault, at a failure of the source
-/// or of the sink, or for want of memory.
+/// Serves the script that a source has left, from the empty window of a kind on: each command is carried out before the
+/// next one is read, so each run is answered before the reader takes more than its line. It stops at the script's first
+/// fault, at a failure of the source or of the sink, or for want of memory.
 pub fn serve<J: Job, S: Source, K: Sink>(
     alloc: Global,
     job: J,
@@ -39,7 +39,6 @@ pub fn serve<J: Job, S: Source, K: Sink>(
     meters: &mut MeterRow<J::Meter>,
 ) -> Result<(), Halt>
     requires settings { AreWithin settings }
-    requires parts { settings.parts ≡ 1 }
     requires meters { FitsMeters meters.old.lanes.items meters.old.parts.items }
     ensures serves { Serves (meaning (J.accepts (J.setting job)) (J.emits (J.setting job)) (J.joined (J.setting job)) (J.text (J.setting job))) (empty_window kind settings.places) MOST_SCRIPT (S.left source.old) (S.left source.new) (K.held out.old) (K.held out.new) result }
     ensures script { IsOfScript result }

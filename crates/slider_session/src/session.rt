@@ -30,12 +30,13 @@ pub struct Session<J: Job> {
 impl<J: Job> Model for Session<J> {
     ghost use Rattle.slider_session.specs.Accepted.{HoldsAccepted};
     ghost use Rattle.slider_session.specs.Calls.{Held};
+    ghost use Rattle.slider_session.specs.Settings.{AreWithin};
 
     ghost Value = { Held };
 
     ghost view = { λ s. record { setting = J.setting s.job; settings = s.settings; runs = s.runs; window = s.window } };
 
-    ghost invariant = { λ s. HoldsAccepted (J.accepts (J.setting s.job)) s.window.window };
+    ghost invariant = { λ s. HoldsAccepted (J.accepts (J.setting s.job)) s.window.window × AreWithin s.settings };
 }
 
 impl<J: Job> Session<J> {
@@ -47,7 +48,6 @@ impl<J: Job> Session<J> {
         kind: Kind,
     ) -> Result<Session<J>, AllocError>
         requires settings { AreWithin settings }
-        requires parts { settings.parts ≡ 1 }
         ensures { IfOk result (λ s. s ≡ record { setting = J.setting job; settings = settings; runs = 0; window = no_leaves kind settings.places }) }
     {
         let window = Window::new(alloc, kind, settings.places);
@@ -116,7 +116,14 @@ impl<J: Job> Session<J> {
         ensures meters { FitsMeters meters.new.lanes.items meters.new.parts.items }
     {
         let run = self.runs + 1;
-        let bytes = match piece_of(alloc, &self.job, &self.window, run, meters) {
+        let bytes = match piece_of(
+            alloc,
+            &self.job,
+            self.settings.parts,
+            &self.window,
+            run,
+            meters,
+        ) {
             Ok(bytes) => bytes,
             Err(_) => return Err(Halt::Mem),
         };

@@ -1,8 +1,8 @@
-use Rattle.std.proofs.Common.{◌≡◌, ◌≤◌, ◌+◌, [], List, ℕ, refl, sym, ap, ◌∙◌, subst, arith, rules}
+use Rattle.std.proofs.Common.{List, ℕ, refl, ap, ◌∙◌, subst, arith, rules}
 use Rattle.std.specs.Prelude.{Option, Ok, Err}
 use Rattle.record_text.specs.Reader.{reading_of, source_of}
 use Rattle.record_text.proofs.ReadLaws.{uses_none}
-use Rattle.window_manager.specs.Windows.{WindowState, empty_window}
+use Rattle.window_manager.specs.Windows.{empty_window}
 use Rattle.slider_session.specs.Output.{meaning}
 use Rattle.slider_session.specs.Calls.{Held, state_of, accepted_of, Steps}
 use Rattle.slider_session.specs.Serving.{Serves}

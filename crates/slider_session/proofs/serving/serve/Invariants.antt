@@ -1,4 +1,4 @@
-use Rattle.std.proofs.Common.{◌≡◌, ◌≤◌, ◌+◌, ◌-◌, ◌<◌, ◌^◌, [], length, None}
+use Rattle.std.proofs.Common.{◌≡◌, ◌≤◌, ◌-◌, ◌^◌, None}
 use Rattle.record_text.specs.Reading.{Sound}
 use Rattle.record_text.specs.Reader.{reading_of, source_of}
 use Rattle.window_manager.specs.Windows.{empty_window}

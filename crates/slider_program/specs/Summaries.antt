@@ -1,0 +1,29 @@
+-- The line that sums up what is written for a script.
+use Rattle.std.specs.Prelude.{ℕ, Bool, true, false, List, ◌++◌, length, filter, codes, decimal}
+use Rattle.hex.specs.Hex.{encode_lower}
+use Rattle.sha2.specs.Sha256.{sha256}
+use Rattle.record_text.specs.declared.command.Command.{Command}
+use Rattle.record_text.specs.declared.command.Command.TheVariants.{Run}
+use Rattle.record_text.specs.Script.{Script, commands}
+use Rattle.window_manager.specs.Windows.{WindowState}
+use Rattle.slider_session.specs.Output.{Meaning, output_of}
+
+-- the limit of a script
+abbrev pub most_script : ℕ
+most_script = 4294967296
+
+abbrev pub is_run : Command → Bool
+is_run Run = true
+is_run c = false
+
+-- how many runs a script has
+abbrev pub runs_of : Script → ℕ
+runs_of script = length (filter (λ c. is_run c.0) script.0)
+
+-- the summary of an output over so many runs: its length and its SHA-256
+abbrev pub summary_line : ℕ → List ℕ → List ℕ
+summary_line runs output = codes "runs " ++ decimal runs ++ (codes " bytes " ++ decimal (length output) ++ (codes " sha256 " ++ encode_lower (sha256 output) ++ codes "\n"))
+
+-- the summary of what is written for a script, over a job and from a window on
+abbrev pub summary_of : {V : Type 0} → Meaning V → WindowState → List ℕ → List ℕ
+summary_of j w script = summary_line (runs_of (commands most_script script)) (output_of j w (commands most_script script))

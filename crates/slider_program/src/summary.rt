@@ -1,0 +1,74 @@
+// The line that sums up what is written for a generated script.
+ghost use Rattle.std.specs.Prelude.{◌≡◌, IfOk, string_bytes};
+ghost use Rattle.definitions.specs.Outside.{Told};
+ghost use Rattle.record_text.specs.Script.{commands};
+ghost use Rattle.window_manager.specs.Windows.{empty_window};
+ghost use Rattle.slider_session.specs.Output.{meaning};
+ghost use Rattle.slider_session.specs.Serving.{FitsMeters};
+ghost use Rattle.slider_session.specs.Settings.{AreWithin};
+ghost use Rattle.slider_program.specs.Summaries.{most_script, runs_of, summary_line, summary_of};
+
+use job_laws::{Job, MeterRow};
+use record_text::{Command, Kind, ScriptFault, ScriptReader};
+use sha2::{Digest, Sha256};
+use slider_io::{Source, SureSink, SureSource};
+use slider_session::{MOST_SCRIPT, Settings, serve};
+use std::alloc::{AllocError, Global};
+
+/// How many runs the script that a source has left has, where it has no fault of form.
+fn count_runs<S: Source>(alloc: Global, source: &mut S) -> Result<u64, ScriptFault>
+    ensures { IfOk result (λ runs. Told (S.left source.old) (S.left source.new) (λ script after. runs ≡ runs_of (commands most_script script))) }
+{
+    let mut reader = ScriptReader::new(source, alloc, MOST_SCRIPT);
+    let mut runs = 0u64;
+    'commands: loop {
+        match reader.next(alloc) {
+            Ok(Some(Command::Run)) => runs += 1,
+            Ok(Some(_)) => (),
+            Ok(None) => {
+                reader.into_source();
+                return Ok(runs);
+            }
+            Err(fault) => {
+                reader.into_source();
+                return Err(fault);
+            }
+        }
+    }
+}
+
+/// The summary of an output over so many runs. Its digest is SHA-256 of FIPS 180-4.
+fn line_of_output(alloc: Global, runs: u64, output: &[u8]) -> Result<String, AllocError>
+    ensures { IfOk result (λ line. string_bytes line ≡ summary_line runs output.now) }
+{
+    let bytes = output.len();
+    let digest = hex::encode(alloc, Sha256::digest(output))?;
+    format!(in alloc; "runs {runs} bytes {bytes} sha256 {digest}\n")
+}
+
+/// Serves a generated script with a job, from the empty window of a kind on, and sums up its output, which is gathered
+/// and not written. A generated script has no fault, so memory alone is wanted where there is no line.
+pub fn summary_of<J: Job>(
+    alloc: Global,
+    job: J,
+    settings: Settings,
+    kind: Kind,
+    script: Vec<u8>,
+    meters: &mut MeterRow<J::Meter>,
+) -> Result<String, AllocError>
+    requires settings { AreWithin settings }
+    requires meters { FitsMeters meters.old.lanes.items meters.old.parts.items }
+    ensures summary { IfOk result (λ line. string_bytes line ≡ summary_of (meaning (J.accepts (J.setting job)) (J.emits (J.setting job)) (J.joined (J.setting job)) (J.text (J.setting job))) (empty_window kind settings.places) script.items) }
+    ensures meters { FitsMeters meters.new.lanes.items meters.new.parts.items }
+{
+    let mut first = SureSource::new(Vec::from_slice(alloc, script.as_slice())?);
+    let Ok(runs) = count_runs(alloc, &mut first) else {
+        return Err(AllocError);
+    };
+    let mut source = SureSource::new(script);
+    let mut output = SureSink::new(alloc);
+    match serve(alloc, job, settings, kind, &mut source, &mut output, meters) {
+        Ok(()) => line_of_output(alloc, runs, output.held()),
+        Err(_) => Err(AllocError),
+    }
+}

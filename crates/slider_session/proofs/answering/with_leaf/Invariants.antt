@@ -1,0 +1,11 @@
+use Rattle.slider_session.specs.Serving.{FitsMeters}
+use Rattle.slider_session.proofs.PartRoots.{Merges}
+use Rattle.slider_session.proofs.answering.with_leaf.Given as goal
+
+abbrev pub invariant-parts : goal.invariant-parts
+invariant-parts g l =
+    let s = g.J.Job.setting l.job in
+    record {
+      meters : FitsMeters l.meters.lanes.items l.meters.parts.items;
+      merges : Merges (g.J.Job.joined s) s l.i l.roots l.mapped.items l.both.items;
+    }
