@@ -1,6 +1,7 @@
 -- What the status after a script's fault says.
 use Rattle.std.proofs.Common.{◌≡◌, ◌≢◌, ℕ, List, [], refl, sym, ◌∙◌, subst, append-nil, inl, inr, ◌⊎◌}
 use Rattle.std.specs.Prelude.{Option}
+use Rattle.std.specs.declared.option.Option.TheVariants.{Some, None}
 use Rattle.definitions.specs.Outside.{Rose, Told, GainsFront}
 use Rattle.definitions.proofs.ToldBytes.{told_same, told_with}
 use Rattle.record_text.specs.declared.script_fault.Why.{Why}
@@ -12,7 +13,8 @@ use Rattle.slider_session.specs.Serving.{Whole, AtFault, OfTaken}
 use Rattle.slider_program.specs.Words.{fault_line, end_line}
 use Rattle.program_words.specs.declared.plan.JobName.{JobName}
 use Rattle.program_words.specs.declared.plan.JobName.TheVariants.{Count, Index, Latest, TopK}
-use Rattle.slider_program.specs.Program.{Seen, Tries, Answered, AnsweredFor, most_script}
+use Rattle.slider_program.specs.Summaries.{most_script, summary_of}
+use Rattle.slider_program.specs.Program.{Seen, Tries, SumsUp, Answered, AnsweredBy, AnsweredFor}
 
 module _ {V : Type 0} (j : Meaning V) (w : WindowState) (old new : Seen) (status line : ℕ) (why : Why) (served : Told old.left new.left (λ script after. Told old.held new.held (AtFault j w most_script line why script after))) where
   neither : {A : Type 0} (n : ℕ) → (n ≢ 3) → (n ≢ 6) → (status ≡ 3) ⊎ (status ≡ 6) → status ≡ n → A
@@ -105,8 +107,21 @@ untouched_answered : {V : Type 0} (j : Meaning V) (w : WindowState) (old : Seen)
 untouched_answered j w old = memory_answered j w old old refl (told_same old.left (λ script after. Told old.held old.held (GainsFront (output_of j w (commands most_script script)))) (λ script.
     told_same old.held (GainsFront (output_of j w (commands most_script script))) (λ z. ([], (output_of j w (commands most_script script), refl), sym (append-nil z)))))
 
-pub untouched_for : {C I L T : Type 0} (w : WindowState) (count : Meaning C) (index : Meaning I) (latest : Meaning L) (topk : ℕ → Meaning T) (k : ℕ) (job : JobName) (old : Seen) → AnsweredFor w count index latest topk k job old old 6
-untouched_for w count index latest topk k Count old = untouched_answered count w old
-untouched_for w count index latest topk k Index old = untouched_answered index w old
-untouched_for w count index latest topk k Latest old = untouched_answered latest w old
-untouched_for w count index latest topk k TopK old = untouched_answered (topk k) w old
+-- nothing was gained of a line
+pub nothing_summed : (line : List ℕ) (before : Option (List ℕ)) (faults : ℕ) → SumsUp line before before faults faults 6
+nothing_summed line before faults = record {
+  done = λ e. cc;
+  write = λ e. cc;
+  front = told_same before (GainsFront line) (λ z. ([], (line, refl), sym (append-nil z)));
+  known = inr (inr refl);
+}
+
+untouched_by : {V : Type 0} (j : Meaning V) (w : WindowState) (script : Option (List ℕ)) (old : Seen) → AnsweredBy j w script old old 6
+untouched_by j w None old = untouched_answered j w old
+untouched_by j w (Some script) old = record { source = (refl, refl); err = (refl, refl); sums = nothing_summed (summary_of j w script) old.held old.out_faults }
+
+pub untouched_for : {C I L T : Type 0} (w : WindowState) (script : Option (List ℕ)) (count : Meaning C) (index : Meaning I) (latest : Meaning L) (topk : ℕ → Meaning T) (k : ℕ) (job : JobName) (old : Seen) → AnsweredFor w script count index latest topk k job old old 6
+untouched_for w script count index latest topk k Count old = untouched_by count w script old
+untouched_for w script count index latest topk k Index old = untouched_by index w script old
+untouched_for w script count index latest topk k Latest old = untouched_by latest w script old
+untouched_for w script count index latest topk k TopK old = untouched_by (topk k) w script old

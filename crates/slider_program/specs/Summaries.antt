@@ -1,5 +1,5 @@
 -- The line that sums up what is written for a script.
-use Rattle.std.specs.Prelude.{ℕ, Bool, true, false, List, ◌++◌, length, filter, codes, decimal}
+use Rattle.std.specs.Prelude.{ℕ, ◌+◌, List, [], ◌∷◌, ◌++◌, length, codes, decimal}
 use Rattle.hex.specs.Hex.{encode_lower}
 use Rattle.sha2.specs.Sha256.{sha256}
 use Rattle.record_text.specs.declared.command.Command.{Command}
@@ -12,13 +12,19 @@ use Rattle.slider_session.specs.Output.{Meaning, output_of}
 abbrev pub most_script : ℕ
 most_script = 4294967296
 
-abbrev pub is_run : Command → Bool
-is_run Run = true
-is_run c = false
+-- how many runs a command is
+abbrev pub runs_in : Command → ℕ
+runs_in Run = 1
+runs_in c = 0
+
+-- how many of these commands are runs
+abbrev pub runs_among : List (Command × ℕ) → ℕ
+runs_among [] = 0
+runs_among (c ∷ cs) = runs_in c.0 + runs_among cs
 
 -- how many runs a script has
 abbrev pub runs_of : Script → ℕ
-runs_of script = length (filter (λ c. is_run c.0) script.0)
+runs_of script = runs_among script.0
 
 -- the summary of an output over so many runs: its length and its SHA-256
 abbrev pub summary_line : ℕ → List ℕ → List ℕ

@@ -78,6 +78,17 @@ fn serve_script<J: Job, S: Source, K: Sink, E: Sink>(
     }
 }
 
+/// Writes the line of a summary, and answers the status.
+fn status_of_summary<K: Sink>(out: &mut K, line: &[u8]) -> u8
+    ensures { SumsUp line.now (K.held out.old) (K.held out.new) (K.faults out.old) (K.faults out.new) result }
+{
+    match put_all(out, line) {
+        Ok(()) => 0,
+        Err(WriteFault::Failed) => 5,
+        Err(WriteFault::Mem) => 6,
+    }
+}
+
 /// Writes the summary of a generated script, and answers the status.
 fn sum_up<J: Job, K: Sink>(
     alloc: Global,
@@ -95,11 +106,7 @@ fn sum_up<J: Job, K: Sink>(
     ensures meters { FitsMeters meters.new.lanes.items meters.new.parts.items }
 {
     match summary_of(alloc, job, settings, kind, script, meters) {
-        Ok(line) => match put_all(out, line.as_bytes()) {
-            Ok(()) => 0,
-            Err(WriteFault::Failed) => 5,
-            Err(WriteFault::Mem) => 6,
-        },
+        Ok(line) => status_of_summary(out, line.as_bytes()),
         Err(_) => 6,
     }
 }

@@ -6,7 +6,7 @@ ghost use Rattle.window_manager.specs.Windows.{empty_window};
 ghost use Rattle.slider_session.specs.Output.{meaning};
 ghost use Rattle.slider_session.specs.Serving.{FitsMeters};
 ghost use Rattle.slider_session.specs.Settings.{AreWithin};
-ghost use Rattle.slider_program.specs.Summaries.{most_script, runs_of, summary_line, summary_of};
+ghost use Rattle.slider_program.specs.Summaries.{most_script, runs_in, runs_of, summary_line, summary_of};
 
 use job_laws::{Job, MeterRow};
 use record_text::{Command, Kind, ScriptFault, ScriptReader};
@@ -14,6 +14,16 @@ use sha2::{Digest, Sha256};
 use slider_io::{Source, SureSink, SureSource};
 use slider_session::{MOST_SCRIPT, Settings, serve};
 use std::alloc::{AllocError, Global};
+
+/// How many runs a command is.
+fn runs_in(command: &Command) -> u64
+    ensures { result ≡ runs_in command.now }
+{
+    match command {
+        Command::Run => 1,
+        _ => 0,
+    }
+}
 
 /// How many runs the script that a source has left has, where it has no fault of form.
 fn count_runs<S: Source>(alloc: Global, source: &mut S) -> Result<u64, ScriptFault>
@@ -23,8 +33,7 @@ fn count_runs<S: Source>(alloc: Global, source: &mut S) -> Result<u64, ScriptFau
     let mut runs = 0u64;
     'commands: loop {
         match reader.next(alloc) {
-            Ok(Some(Command::Run)) => runs += 1,
-            Ok(Some(_)) => (),
+            Ok(Some(command)) => runs += runs_in(&command),
             Ok(None) => {
                 reader.into_source();
                 return Ok(runs);

@@ -1,10 +1,10 @@
 use Rattle.slider_session.specs.Output.{meaning}
-use Rattle.program_words.specs.Plans.{first_window}
+use Rattle.slider_program.specs.Program.{first_window, generated_by}
 use Rattle.slider_program.proofs.Statuses.{untouched_for}
 use Rattle.slider_program.proofs.program.run_program.Goals as goal
 
 pub returns-in-Err-Mem-clause-answered : goal.returns-in-Err-Mem-clause-answered
-returns-in-Err-Mem-clause-answered g c plan is = untouched_for (first_window plan)
+returns-in-Err-Mem-clause-answered g c plan is = untouched_for (first_window plan) (generated_by plan)
     (meaning (g.B.Count.Job.accepts 0) (g.B.Count.Job.emits 0) (g.B.Count.Job.joined 0) (g.B.Count.Job.text 0))
     (meaning (g.B.Index.Job.accepts 0) (g.B.Index.Job.emits 0) (g.B.Index.Job.joined 0) (g.B.Index.Job.text 0))
     (meaning (g.B.Latest.Job.accepts 0) (g.B.Latest.Job.emits 0) (g.B.Latest.Job.joined 0) (g.B.Latest.Job.text 0))

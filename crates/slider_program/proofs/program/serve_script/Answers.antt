@@ -2,7 +2,7 @@ use Rattle.std.proofs.Common.{refl}
 use Rattle.slider_session.specs.Output.{meaning}
 use Rattle.window_manager.specs.Windows.{empty_window}
 use Rattle.slider_program.proofs.Statuses.{done_answered, fault_answered, read_answered, write_answered, memory_answered}
-use Rattle.slider_program.proofs.program.run_job.Goals as goal
+use Rattle.slider_program.proofs.program.serve_script.Goals as goal
 
 pub returns-in-Ok-clause-answered : goal.returns-in-Ok-clause-answered
 returns-in-Ok-clause-answered g c =
