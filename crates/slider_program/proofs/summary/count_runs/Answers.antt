@@ -1,4 +1,4 @@
-use Rattle.std.proofs.Common.{◌≡◌, ◌≤◌, ◌+◌, ℕ, List, sym, ap, ◌∙◌, subst, refl, arith, rules}
+use Rattle.std.proofs.Common.{◌≡◌, ◌+◌, ℕ, List, sym, ap, ◌∙◌, subst, refl, arith, rules}
 use Rattle.std.specs.Prelude.{Option}
 use Rattle.definitions.specs.Outside.{Told}
 use Rattle.record_text.specs.Reader.{reading_of, source_of}
