@@ -93,7 +93,7 @@ fn each_refused_word_has_its_usage(rt: HostRuntime) -> Result<(), AllocError> {
 }
 
 #[test]
-fn latest_refuses_the_rotating_tree(rt: HostRuntime) -> Result<(), AllocError> {
+fn the_pairing_of_latest_and_rotating_is_refused_last(rt: HostRuntime) -> Result<(), AllocError> {
     let alloc = rt.alloc();
     let pair = "--job latest --tree rotating";
     assert!(rt; refuses(alloc, pair, b"usage tree\n")?);

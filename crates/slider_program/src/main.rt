@@ -4,6 +4,10 @@
 
 mod basic_jobs;
 #[cfg(test)]
+mod device_tests;
+#[cfg(test)]
+mod job_tests;
+#[cfg(test)]
 mod kind_tests;
 #[cfg(test)]
 mod plain_tests;
@@ -26,6 +30,7 @@ use job_laws::{CountMeter, MeterRow};
 use slider_io::{NoGate, ReaderSource, WriterSink, put_all};
 use std::alloc::{AllocError, Global};
 use std::env;
+use std::io::ErrorKind;
 use std::process::ExitCode;
 
 /// The meters of the program: 16 for lanes and 16 for parts.
@@ -44,9 +49,13 @@ fn new_meters(alloc: Global) -> Result<MeterRow<CountMeter>, AllocError>
 fn main(rt: HostRuntime) -> ExitCode {
     let alloc = rt.alloc();
     let mut err = WriterSink::new(rt.stderr());
-    let Ok(args) = env::args(&rt) else {
-        let _ = put_all(&mut err, b"usage words\n");
-        return ExitCode::from(2);
+    let args = match env::args(&rt) {
+        Ok(args) => args,
+        Err(e) if e.kind() == ErrorKind::OutOfMemory => return ExitCode::from(6),
+        Err(_) => {
+            let _ = put_all(&mut err, b"usage words\n");
+            return ExitCode::from(2);
+        }
     };
     let mut words = Vec::new(alloc);
     for word in args.skip(1) {

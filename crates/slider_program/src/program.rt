@@ -187,7 +187,7 @@ pub fn run_program<Q: Threads + Wait + Sync, S: Source, K: Sink, E: Sink, B: Job
     ensures refused { (field : Field) → plan_of (map string_bytes words.now) ≡ Err field → Refused (line_for field)
         record { left = S.left source.old; held = K.held out.old; said = E.held err.old; source_faults = S.faults source.old; out_faults = K.faults out.old; err_faults = E.faults err.old }
         record { left = S.left source.new; held = K.held out.new; said = E.held err.new; source_faults = S.faults source.new; out_faults = K.faults out.new; err_faults = E.faults err.new } result }
-    ensures untouched { (field : Field) → plan_of (map string_bytes words.now) ≡ Err field → (meters.new ≡ meters.old) }
+    ensures untouched { (field : Field) → plan_of (map string_bytes words.now) ≡ Err field → (meters.new ≡ meters.old) × (source.new ≡ source.old) × (out.new ≡ out.old) }
     ensures answered { (plan : Plan) → plan_of (map string_bytes words.now) ≡ Ok plan → AnsweredFor (first_window plan) (generated_by plan)
         (meaning (B.Count.accepts 0) (B.Count.emits 0) (B.Count.joined 0) (B.Count.text 0))
         (meaning (B.Index.accepts 0) (B.Index.emits 0) (B.Index.joined 0) (B.Index.text 0))

@@ -3,26 +3,26 @@
 use crate::basic_jobs::BasicJobs;
 use crate::new_meters;
 use crate::program::run_program;
-use slider_io::{MemSink, MemSource, NoGate, SureSink, SureSource};
+use slider_io::{NoGate, SureSink, SureSource};
 use std::alloc::{AllocError, Global};
 use std::sync::Wait;
 use std::thread::Threads;
 
 /// What a run of the program wrote, said and answered.
 #[derive(Drop)]
-struct Ran {
-    out: Vec<u8>,
-    err: Vec<u8>,
-    status: u8,
+pub struct Ran {
+    pub out: Vec<u8>,
+    pub err: Vec<u8>,
+    pub status: u8,
 }
 
 /// The words `--job count --tree coalescing`.
-fn count_words(alloc: Global) -> Result<Vec<String>, AllocError> {
+pub fn count_words(alloc: Global) -> Result<Vec<String>, AllocError> {
     words(alloc, "--job count --tree coalescing")
 }
 
 /// The words of a line, split at its spaces.
-fn words(alloc: Global, line: &str) -> Result<Vec<String>, AllocError> {
+pub fn words(alloc: Global, line: &str) -> Result<Vec<String>, AllocError> {
     let mut words = Vec::new(alloc);
     for word in line.split(' ') {
         words.push(String::from_str(alloc, word)?)?;
@@ -31,7 +31,7 @@ fn words(alloc: Global, line: &str) -> Result<Vec<String>, AllocError> {
 }
 
 /// Runs the program over a script in memory.
-fn run<Q: Threads + Wait + Sync>(
+pub fn run<Q: Threads + Wait + Sync>(
     rt: &Q,
     alloc: Global,
     words: &[String],
@@ -63,7 +63,7 @@ fn run<Q: Threads + Wait + Sync>(
 }
 
 /// Whether the program, counting words, writes this, says this and answers this.
-fn gives<Q: Threads + Wait + Sync>(
+pub fn gives<Q: Threads + Wait + Sync>(
     rt: &Q,
     alloc: Global,
     script: &[u8],
@@ -207,7 +207,7 @@ fn a_last_line_without_lf_and_a_long_record(rt: HostRuntime) -> Result<(), Alloc
 }
 
 #[test]
-fn command_lines_are_exact(rt: HostRuntime) -> Result<(), AllocError> {
+fn numbers_and_words_are_exact(rt: HostRuntime) -> Result<(), AllocError> {
     for script in [
         "bucket",
         "",
@@ -231,7 +231,13 @@ fn command_lines_are_exact(rt: HostRuntime) -> Result<(), AllocError> {
             "at {script}"
         );
     }
-    for script in ["bucket 01", "bucket -1", "bucket 4294967296", "bucket 1x"] {
+    for script in [
+        "bucket 01",
+        "bucket -1",
+        "bucket 4294967296",
+        "drop 4294967296",
+        "bucket 1x",
+    ] {
         assert!(rt;
             gives(
                 &rt,
@@ -258,10 +264,19 @@ fn command_lines_are_exact(rt: HostRuntime) -> Result<(), AllocError> {
 }
 
 #[test]
-fn refused_words_have_their_usage(rt: HostRuntime) -> Result<(), AllocError> {
+fn each_refused_word_has_its_usage(rt: HostRuntime) -> Result<(), AllocError> {
+    let none = Vec::new(rt.alloc());
+    let ran = run(&rt, rt.alloc(), none.as_slice(), b"run\n")?;
+    assert!(rt; ran.status == 2 && ran.out.is_empty());
+    assert!(rt; ran.err.as_slice() == b"usage job\n".as_slice());
     for (line, usage) in [
         ("", "usage words\n"),
-        ("--job count", "usage tree\n"),
+        ("--job=count", "usage tree\n"),
+        ("x", "usage words\n"),
+        ("--tree=", "usage words\n"),
+        ("--job count --job count --tree folding", "usage words\n"),
+        ("--job count --tree folding --parts 17", "usage parts\n"),
+        ("--job count --tree folding --gen x", "usage gen\n"),
         ("--job count --tree coalescing x", "usage words\n"),
         ("--job sum --tree coalescing", "usage job\n"),
         ("--job count --trees coalescing", "usage words\n"),
@@ -280,240 +295,6 @@ fn refused_words_have_their_usage(rt: HostRuntime) -> Result<(), AllocError> {
         assert_eq!(rt; ran.status, 2, "at {line}");
         assert!(rt; ran.out.is_empty());
         assert!(rt; ran.err.as_slice() == usage.as_bytes());
-    }
-    Ok(())
-}
-
-#[test]
-fn an_index_lists_documents_and_refuses_a_large_number(rt: HostRuntime) -> Result<(), AllocError> {
-    let line = "--job index --tree coalescing";
-    assert!(rt;
-        line_gives(
-            &rt,
-            rt.alloc(),
-            line,
-            b"bucket 2\n7\tcat dog cat\n4294967295\tcat\nrun\n",
-            b"# run 1 keys 2\ncat\t7,4294967295\ndog\t7\n",
-            b""
-        )?
-    );
-    assert!(rt;
-        line_gives(
-            &rt,
-            rt.alloc(),
-            line,
-            b"bucket 1\n4294967296\tcat",
-            b"",
-            b"fault 2 record\n"
-        )?
-    );
-    Ok(())
-}
-
-#[test]
-fn documents_of_many_buckets_rise(rt: HostRuntime) -> Result<(), AllocError> {
-    let script =
-        b"bucket 1\n9\tb a\nbucket 2\n3\ta\tb\n9\ta\nrun\nbucket 1\n0\t\nbucket 1\n5\ta\nrun\n";
-    let out = b"# run 1 keys 2\na\t3,9\nb\t3,9\n# run 2 keys 2\na\t3,5,9\nb\t3,9\n";
-    assert!(rt;
-        line_gives(
-            &rt,
-            rt.alloc(),
-            "--job index --tree coalescing",
-            script,
-            out,
-            b""
-        )?
-    );
-    Ok(())
-}
-
-#[test]
-fn top_k_keeps_repeated_pairs(rt: HostRuntime) -> Result<(), AllocError> {
-    let script = b"bucket 3\ng\t5\tb\ng\t5\ta\ng\t5\ta\nrun\n";
-    assert!(rt;
-        line_gives(
-            &rt,
-            rt.alloc(),
-            "--job topk --k 2 --tree coalescing",
-            script,
-            b"# run 1 keys 1\ng\t5\ta\ng\t5\ta\n",
-            b""
-        )?
-    );
-    assert!(rt;
-        line_gives(
-            &rt,
-            rt.alloc(),
-            "--job topk --k 1 --tree coalescing",
-            script,
-            b"# run 1 keys 1\ng\t5\ta\n",
-            b""
-        )?
-    );
-    assert!(rt;
-        line_gives(
-            &rt,
-            rt.alloc(),
-            "--job topk --k 1000 --tree coalescing",
-            script,
-            b"# run 1 keys 1\ng\t5\ta\ng\t5\ta\ng\t5\tb\n",
-            b""
-        )?
-    );
-    Ok(())
-}
-
-#[test]
-fn topk_keeps_ten_unless_told(rt: HostRuntime) -> Result<(), AllocError> {
-    let script =
-        b"bucket 11\ng\t1\ti\ng\t2\ti\ng\t3\ti\ng\t4\ti\ng\t5\ti\ng\t6\ti\ng\t7\ti\ng\t8\ti\ng\t9\ti\ng\t10\ti\ng\t11\ti\nrun\n";
-    let out =
-        b"# run 1 keys 1\ng\t11\ti\ng\t10\ti\ng\t9\ti\ng\t8\ti\ng\t7\ti\ng\t6\ti\ng\t5\ti\ng\t4\ti\ng\t3\ti\ng\t2\ti\n";
-    assert!(rt;
-        line_gives(
-            &rt,
-            rt.alloc(),
-            "--job topk --tree coalescing",
-            script,
-            out,
-            b""
-        )?
-    );
-    Ok(())
-}
-
-#[test]
-fn the_latest_value_wins(rt: HostRuntime) -> Result<(), AllocError> {
-    let script =
-        b"bucket 1\nk\t1\nbucket 1\nk\t2\nrun\nbucket 2\nj\tx\ty\nk\t1\nrun\nbucket 1\nk\t\nrun\n";
-    let out =
-        b"# run 1 keys 1\nk\t2\n# run 2 keys 2\nj\tx\ty\nk\t1\n# run 3 keys 2\nj\tx\ty\nk\t\n";
-    assert!(rt;
-        line_gives(
-            &rt,
-            rt.alloc(),
-            "--job latest --tree coalescing",
-            script,
-            out,
-            b""
-        )?
-    );
-    Ok(())
-}
-
-#[test]
-fn a_record_that_is_not_accepted_is_a_fault_at_its_line(rt: HostRuntime) -> Result<(), AllocError> {
-    for (line, script, fault) in [
-        (
-            "--job latest --tree coalescing",
-            b"run\nbucket 3\nk\t1\nk\nl\nrun\n".as_slice(),
-            b"fault 4 record\n".as_slice(),
-        ),
-        (
-            "--job latest --tree coalescing",
-            b"run\nbucket 1\n\t1\n",
-            b"fault 3 record\n",
-        ),
-        (
-            "--job latest --tree coalescing",
-            b"run\nbucket 2\nk\n",
-            b"fault 2 short\n",
-        ),
-        (
-            "--job topk --tree coalescing",
-            b"run\nbucket 2\ng\t4294967295\ti\ng\t4294967296\ti\n",
-            b"fault 4 record\n",
-        ),
-        (
-            "--job topk --tree coalescing",
-            b"run\nbucket 1\ng\t1\n",
-            b"fault 3 record\n",
-        ),
-        (
-            "--job index --tree coalescing",
-            b"run\nbucket 2\n07\ta\nrun\n",
-            b"fault 3 record\n",
-        ),
-    ] {
-        assert!(rt;
-            line_gives(&rt, rt.alloc(), line, script, b"# run 1 keys 0\n", fault)?,
-            "at {line}"
-        );
-    }
-    Ok(())
-}
-
-/// Runs `run`, `run` over devices of one byte a call that fail at these calls, and answers what was written and the status.
-fn run_failing<Q: Threads + Wait + Sync>(
-    rt: &Q,
-    alloc: Global,
-    source_fails: u64,
-    out_fails: u64,
-    err_fails: u64,
-    script: &[u8],
-) -> Result<Ran, AllocError> {
-    let Ok(mut meters) = new_meters(alloc) else {
-        return Err(AllocError);
-    };
-    let words = count_words(alloc)?;
-    let mut source = MemSource::new(
-        Vec::from_slice(alloc, script)?,
-        1,
-        Vec::from_slice(alloc, &[source_fails])?,
-    );
-    let mut out = MemSink::new(alloc, 1, Vec::from_slice(alloc, &[out_fails])?);
-    let mut err = MemSink::new(alloc, 1, Vec::from_slice(alloc, &[err_fails])?);
-    let jobs = BasicJobs;
-    let status = run_program(
-        alloc,
-        rt,
-        words.as_slice(),
-        &jobs,
-        &mut source,
-        &mut out,
-        &mut err,
-        &mut meters,
-        &NoGate,
-    );
-    Ok(Ran {
-        out: Vec::from_slice(alloc, out.held())?,
-        err: Vec::from_slice(alloc, err.held())?,
-        status,
-    })
-}
-
-#[test]
-fn a_failing_device_leaves_a_prefix(rt: HostRuntime) -> Result<(), AllocError> {
-    let ran = run_failing(&rt, rt.alloc(), 5, 0, 0, b"run\nrun\n")?;
-    assert_eq!(rt; ran.status, 4);
-    assert!(rt; ran.out.as_slice() == b"# run 1 keys 0\n".as_slice());
-    let ran = run_failing(&rt, rt.alloc(), 0, 11, 0, b"run\nrun\n")?;
-    assert_eq!(rt; ran.status, 5);
-    assert!(rt; ran.out.as_slice() == b"# run 1 ke".as_slice());
-    let ran = run_failing(&rt, rt.alloc(), 0, 0, 3, b"run\nx\n")?;
-    assert_eq!(rt; ran.status, 3);
-    assert!(rt; ran.out.as_slice() == b"# run 1 keys 0\n".as_slice());
-    assert!(rt; ran.err.as_slice() == b"fa".as_slice());
-    Ok(())
-}
-
-#[test]
-fn each_call_of_a_device_may_fail(rt: HostRuntime) -> Result<(), AllocError> {
-    let script = b"bucket 1\na b a\nrun\n";
-    let whole = b"# run 1 keys 2\na\t2\nb\t1\n";
-    for k in 1..22u64 {
-        let ran = run_failing(&rt, rt.alloc(), k, 0, 0, script)?;
-        assert_eq!(rt; ran.status, if k < 21 { 4 } else { 0 }, "at {k}");
-        assert!(rt;
-            ran.out.len() == if k < 20 { 0 } else { whole.len() },
-            "at {k}"
-        );
-    }
-    for k in 1..25u64 {
-        let ran = run_failing(&rt, rt.alloc(), 0, k, 0, script)?;
-        assert_eq!(rt; ran.status, if k < 24 { 5 } else { 0 }, "at {k}");
-        assert!(rt; ran.out.len() as u64 == k.min(24) - 1, "at {k}");
     }
     Ok(())
 }

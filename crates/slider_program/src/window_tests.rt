@@ -144,8 +144,8 @@ fn the_latest_value_wins_through_drops(rt: HostRuntime) -> Result<(), AllocError
             &rt,
             rt.alloc(),
             "--job latest --tree folding",
-            b"bucket 1\nk\t1\nbucket 1\nk\t2\nrun\ndrop 1\nrun\n",
-            b"# run 1 keys 1\nk\t2\n# run 2 keys 1\nk\t2\n",
+            b"bucket 1\nk\t1\nbucket 1\nk\t2\nrun\ndrop 1\nrun\nbucket 1\nk\t1\nrun\n",
+            b"# run 1 keys 1\nk\t2\n# run 2 keys 1\nk\t2\n# run 3 keys 1\nk\t1\n",
             b""
         )?
     );
@@ -185,6 +185,48 @@ fn late_records_keep_their_bucket_order(rt: HostRuntime) -> Result<(), AllocErro
     let out = b"# run 1 keys 1\nk\t2\n# run 2 keys 1\nk\t4\n";
     let line = "--job latest --tree folding";
     assert!(rt; line_gives(&rt, rt.alloc(), line, script, out, b"fault 12 many\n")?);
+    Ok(())
+}
+
+#[test]
+fn files_stand_in_name_order(rt: HostRuntime) -> Result<(), AllocError> {
+    let script = b"file b\nload 1\nk\t1\nfile a\nload 1\nk\t2\nrun\nremove b\nrun\n";
+    let out = b"# run 1 keys 1\nk\t1\n# run 2 keys 1\nk\t2\n";
+    let line = "--job latest --tree random";
+    assert!(rt; line_gives(&rt, rt.alloc(), line, script, out, b"")?);
+    Ok(())
+}
+
+#[test]
+fn names_of_files_are_checked(rt: HostRuntime) -> Result<(), AllocError> {
+    let alloc = rt.alloc();
+    let long = around(alloc, b"file ", b'n', 256, b"\n")?;
+    for (tree, script, err) in [
+        (
+            "random",
+            b"file\n".as_slice(),
+            b"fault 1 unknown\n".as_slice(),
+        ),
+        ("random", long.as_slice(), b"fault 1 name\n".as_slice()),
+        (
+            "folding",
+            b"file a\n".as_slice(),
+            b"fault 1 nothere\n".as_slice(),
+        ),
+    ] {
+        assert!(rt; tree_says(&rt, alloc, tree, script, err)?);
+    }
+    let line = "--job count --tree random";
+    assert!(rt;
+        line_gives(
+            &rt,
+            alloc,
+            line,
+            b"remove q\nrun\n",
+            b"# run 1 keys 0\n",
+            b""
+        )?
+    );
     Ok(())
 }
 
@@ -264,11 +306,7 @@ fn the_generated_script_has_one_summary(rt: HostRuntime) -> Result<(), AllocErro
     let alloc = rt.alloc();
     let out =
         b"runs 40 bytes 1741990 sha256 636aa9ee010940a82874932f0d1a243e60b196c31bb75e2cfb12f567a3f791c8\n";
-    for line in [
-        "--gen 7 --job count --tree rotating",
-        "--gen=7 --job count --tree folding --parts 3",
-    ] {
-        assert!(rt; line_gives(&rt, alloc, line, b"bucket 1\n", out, b"")?);
-    }
+    let line = "--gen 7 --job count --tree rotating";
+    assert!(rt; line_gives(&rt, alloc, line, b"bucket 1\n", out, b"")?);
     Ok(())
 }

@@ -30,12 +30,12 @@ fn each_task_is_worked_in_its_place(rt: HostRuntime) -> Result<(), Fail> {
     let tasks = vec![in rt.alloc(); 10u64, 20, 30]?;
     match work_all(&rt, rt.alloc(), tasks, 2, &NoGate, &Adds) {
         Ok(done) => assert_eq!(rt; done.as_slice(), [10, 21, 32].as_slice()),
-        Err((_, tasks)) => assert_eq!(rt; tasks.as_slice(), [10, 20, 30].as_slice()),
+        Err(_) => panic!(rt; "there is memory for three tasks"),
     }
     let none = Vec::new(rt.alloc());
     match work_all(&rt, rt.alloc(), none, 16, &NoGate, &Adds) {
         Ok(done) => assert!(rt; done.is_empty()),
-        Err((_, tasks)) => assert!(rt; tasks.is_empty()),
+        Err(_) => panic!(rt; "there is memory for no task"),
     }
     Ok(())
 }
@@ -101,7 +101,7 @@ fn works_next<R: Abort>(
 fn a_board_gives_each_number_once(rt: HostRuntime) -> Result<(), Fail> {
     let tasks = vec![in rt.alloc(); 7u64, 8]?;
     let Ok((board, mut hands)) = Board::new(rt.alloc(), tasks, 1) else {
-        return Ok(());
+        panic!(rt; "there is memory for a board")
     };
     let Some(mut hand) = hands.pop() else {
         panic!(rt; "there is one hand")

@@ -1,0 +1,120 @@
+// Devices that fail, and words that are refused before any device is touched.
+
+use crate::basic_jobs::BasicJobs;
+use crate::new_meters;
+use crate::program::run_program;
+use crate::tests::{Ran, count_words, words};
+use slider_io::{MemSink, MemSource, NoGate, Source, SureSink, SureSource};
+use std::alloc::{AllocError, Global};
+use std::sync::Wait;
+use std::thread::Threads;
+
+#[test]
+fn latest_refuses_the_rotating_tree(rt: HostRuntime) -> Result<(), AllocError> {
+    let alloc = rt.alloc();
+    let Ok(mut meters) = new_meters(alloc) else {
+        return Err(AllocError);
+    };
+    let words = words(alloc, "--job latest --tree rotating")?;
+    for err_fails in [0u64, 1] {
+        let mut source = SureSource::new(Vec::from_slice(alloc, b"run\n")?);
+        let mut out = SureSink::new(alloc);
+        let mut err = MemSink::new(alloc, 64, Vec::from_slice(alloc, &[err_fails])?);
+        let status = run_program(
+            alloc,
+            &rt,
+            words.as_slice(),
+            &BasicJobs,
+            &mut source,
+            &mut out,
+            &mut err,
+            &mut meters,
+            &NoGate,
+        );
+        assert_eq!(rt; status, 2);
+        assert!(rt; out.held().is_empty());
+        let said = if err_fails == 0 {
+            b"usage tree\n".as_slice()
+        } else {
+            b"".as_slice()
+        };
+        assert!(rt; err.held() == said);
+        let mut left = [0u8; 8];
+        assert!(rt; source.take(&mut left) == Ok(4));
+        assert!(rt; &left[..4] == b"run\n".as_slice());
+    }
+    Ok(())
+}
+
+/// Runs a script over devices of one byte a call that fail at these calls, and answers what was written and the status.
+fn run_failing<Q: Threads + Wait + Sync>(
+    rt: &Q,
+    alloc: Global,
+    source_fails: u64,
+    out_fails: u64,
+    err_fails: u64,
+    script: &[u8],
+) -> Result<Ran, AllocError> {
+    let Ok(mut meters) = new_meters(alloc) else {
+        return Err(AllocError);
+    };
+    let words = count_words(alloc)?;
+    let mut source = MemSource::new(
+        Vec::from_slice(alloc, script)?,
+        1,
+        Vec::from_slice(alloc, &[source_fails])?,
+    );
+    let mut out = MemSink::new(alloc, 1, Vec::from_slice(alloc, &[out_fails])?);
+    let mut err = MemSink::new(alloc, 1, Vec::from_slice(alloc, &[err_fails])?);
+    let jobs = BasicJobs;
+    let status = run_program(
+        alloc,
+        rt,
+        words.as_slice(),
+        &jobs,
+        &mut source,
+        &mut out,
+        &mut err,
+        &mut meters,
+        &NoGate,
+    );
+    Ok(Ran {
+        out: Vec::from_slice(alloc, out.held())?,
+        err: Vec::from_slice(alloc, err.held())?,
+        status,
+    })
+}
+
+#[test]
+fn a_failing_device_leaves_a_prefix(rt: HostRuntime) -> Result<(), AllocError> {
+    let ran = run_failing(&rt, rt.alloc(), 5, 0, 0, b"run\nrun\n")?;
+    assert_eq!(rt; ran.status, 4);
+    assert!(rt; ran.out.as_slice() == b"# run 1 keys 0\n".as_slice());
+    let ran = run_failing(&rt, rt.alloc(), 0, 11, 0, b"run\nrun\n")?;
+    assert_eq!(rt; ran.status, 5);
+    assert!(rt; ran.out.as_slice() == b"# run 1 ke".as_slice());
+    let ran = run_failing(&rt, rt.alloc(), 0, 0, 3, b"run\nx\n")?;
+    assert_eq!(rt; ran.status, 3);
+    assert!(rt; ran.out.as_slice() == b"# run 1 keys 0\n".as_slice());
+    assert!(rt; ran.err.as_slice() == b"fa".as_slice());
+    Ok(())
+}
+
+#[test]
+fn each_call_of_a_device_may_fail(rt: HostRuntime) -> Result<(), AllocError> {
+    let script = b"bucket 1\na b a\nrun\n";
+    let whole = b"# run 1 keys 2\na\t2\nb\t1\n";
+    for k in 1..22u64 {
+        let ran = run_failing(&rt, rt.alloc(), k, 0, 0, script)?;
+        assert_eq!(rt; ran.status, if k < 21 { 4 } else { 0 }, "at {k}");
+        let written = if k < 20 { 0 } else { whole.len() };
+        assert!(rt; ran.out.as_slice() == &whole[..written], "at {k}");
+    }
+    for k in 1..25u64 {
+        let ran = run_failing(&rt, rt.alloc(), 0, k, 0, script)?;
+        assert_eq!(rt; ran.status, if k < 24 { 5 } else { 0 }, "at {k}");
+        let written = (k.min(24) - 1) as usize;
+        assert!(rt; ran.out.as_slice() == &whole[..written], "at {k}");
+    }
+    Ok(())
+}
