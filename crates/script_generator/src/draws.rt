@@ -4,8 +4,8 @@ ghost use Rattle.script_generator.specs.Draws.{next_state, drawn};
 
 use std::marker::Model;
 
-/// What a state is multiplied by: the multiplier of MMIX's generator, of D. E. Knuth (The Art of Computer Programming, volume 2,
-/// third edition, section 3.3.4).
+/// What a state is multiplied by: the multiplier of D. E. Knuth's generator for MMIX (The Art of Computer Programming,
+/// volume 2, third edition, section 3.3.4).
 pub const MULTIPLIER: u64 = 6364136223846793005;
 
 /// What is added to the product: the increment of the same generator.
