@@ -9,40 +9,47 @@ use std::alloc::{AllocError, Global};
 use std::sync::Wait;
 use std::thread::Threads;
 
-#[test]
-fn latest_refuses_the_rotating_tree(rt: HostRuntime) -> Result<(), AllocError> {
-    let alloc = rt.alloc();
+/// Whether words that pair `latest` with the tree `rotating` are refused with this on `err`, which may fail at its first
+/// call, and leave the source and `out` alone.
+fn refuses_the_pairing<Q: Threads + Wait + Sync>(
+    rt: &Q,
+    alloc: Global,
+    err_fails: u64,
+    said: &[u8],
+) -> Result<bool, AllocError> {
     let Ok(mut meters) = new_meters(alloc) else {
         return Err(AllocError);
     };
     let words = words(alloc, "--job latest --tree rotating")?;
-    for err_fails in [0u64, 1] {
-        let mut source = SureSource::new(Vec::from_slice(alloc, b"run\n")?);
-        let mut out = SureSink::new(alloc);
-        let mut err = MemSink::new(alloc, 64, Vec::from_slice(alloc, &[err_fails])?);
-        let status = run_program(
-            alloc,
-            &rt,
-            words.as_slice(),
-            &BasicJobs,
-            &mut source,
-            &mut out,
-            &mut err,
-            &mut meters,
-            &NoGate,
-        );
-        assert_eq!(rt; status, 2);
-        assert!(rt; out.held().is_empty());
-        let said = if err_fails == 0 {
-            b"usage tree\n".as_slice()
-        } else {
-            b"".as_slice()
-        };
-        assert!(rt; err.held() == said);
-        let mut left = [0u8; 8];
-        assert!(rt; source.take(&mut left) == Ok(4));
-        assert!(rt; &left[..4] == b"run\n".as_slice());
-    }
+    let mut source = SureSource::new(Vec::from_slice(alloc, b"run\n")?);
+    let mut out = SureSink::new(alloc);
+    let mut err = MemSink::new(alloc, 64, Vec::from_slice(alloc, &[err_fails])?);
+    let status = run_program(
+        alloc,
+        rt,
+        words.as_slice(),
+        &BasicJobs,
+        &mut source,
+        &mut out,
+        &mut err,
+        &mut meters,
+        &NoGate,
+    );
+    let mut left = [0u8; 4];
+    let taken = source.take(&mut left);
+    Ok(
+        status == 2
+            && out.held().is_empty()
+            && err.held() == said
+            && taken == Ok(4)
+            && left == *b"run\n",
+    )
+}
+
+#[test]
+fn latest_refuses_the_rotating_tree(rt: HostRuntime) -> Result<(), AllocError> {
+    assert!(rt; refuses_the_pairing(&rt, rt.alloc(), 0, b"usage tree\n")?);
+    assert!(rt; refuses_the_pairing(&rt, rt.alloc(), 1, b"")?);
     Ok(())
 }
 
