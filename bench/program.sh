@@ -20,6 +20,17 @@ begin_program() {
     mkdir -p "$bench/src" "$bench/specs" "$bench/proofs"
 }
 
+# run_program PATTERN: proves, builds and runs the program, and shows the lines of its output that fit the pattern; what
+# the kit says only where that fails.
+run_program() {
+    echo "$(basename "$0"): proving and building; this takes some minutes" >&2
+    (cd "$bench" && rt run) > "$work/output" 2> "$work/said" || {
+        cat "$work/output" "$work/said" >&2
+        exit 1
+    }
+    grep "$1" "$work/output"
+}
+
 # draw_code: the code of the draws.
 draw_code() {
     cat <<'RATTLE'
