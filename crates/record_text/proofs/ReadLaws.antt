@@ -1,14 +1,15 @@
 -- What a reader has used of its script, line by line.
 use Rattle.std.proofs.Common.{◌≡◌, ◌≢◌, ℕ, ◌+◌, ◌-◌, ◌<◌, ◌≤◌, Bool, true, false, List, [], ◌∷◌, ◌++◌, length, take, drop, refl, sym, ap, ◌∙◌, subst, arith, inl, inr, length-take, length-drop, append-nil, append_assoc, take-append-drop, ◌⊎◌}
 use Rattle.std.specs.Prelude.{Option, Ok, Err}
-use Rattle.std.specs.declared.option.Option.TheVariants.{Some}
+use Rattle.std.specs.declared.option.Option.TheVariants.{Some, None}
 use Rattle.std.proofs.lemmas.Bool.Decides.{nat_tests}
+use Rattle.definitions.specs.Outside.{Told}
 use Rattle.definitions.specs.Records.{text_of}
 use Rattle.definitions.proofs.ToldBytes.{told_same, told_then}
 use Rattle.record_text.specs.Fields.{IsForm}
 use Rattle.record_text.specs.Table.{asked, command_of}
 use Rattle.record_text.specs.Script.{ACommand, ARecord, Script, from_line, step, after_records, fits_command}
-use Rattle.record_text.specs.Reading.{IsLine, Goes, Comes, Sound, Used, Uses, Stops, RecordsAre, CommandIs, Lacks, LineTaken, RecordsLack, Taken, NextLineIs, SamePlace}
+use Rattle.record_text.specs.Reading.{IsLine, Goes, Comes, Sound, Used, Uses, Stops, RecordsAre, CommandIs, Held, Took, TakenWhere, Lacks, RecordsLack, NeedsMore, NextLineIs, SamePlace}
 use Rattle.record_text.specs.declared.reading.Reading.{Reading}
 use Rattle.record_text.specs.declared.script_fault.ScriptFault.{ScriptFault}
 use Rattle.record_text.specs.declared.script_fault.Why.{Why}
@@ -194,21 +195,9 @@ module _ (r s t : Reading) (lr ls : Option (List ℕ)) (looks : Uses r s lr ls [
       up_to_records : (full : Bool) (y : List ℕ) → Goes t.ended t.ahead full y → from_line full ACommand (r.line + 1) (take skip s.ahead ++ y) ≡ after_records t.line head n [] (λ next. from_line full next (t.line + 1) y)
       up_to_records full y goes = begin full y goes ∙ step-asks t.line (take len s.ahead) (λ next. from_line full next (t.line + 1) y) head n is
 
-      -- the line or a record line was not held
-      pub command_touch : {S : Type 0} (a b c : S) → LineTaken a b r s → (c ≡ b) ⊎ RecordsLack t.line n t → Taken a c r
-      command_touch a b c (inr lack) records = inr (lack.0, (r.line + 1, lack.1 ACommand (r.line + 1)))
-      command_touch a b c (inl same) (inl still) = inl (still ∙ same.source)
-      command_touch a b c (inl same) (inr lack) =
-          let found = lack.1 head in
-          inr (
-            sym same.ended ∙ sym ended ∙ lack.0,
-            (
-              found.0,
-              ap (λ (l : List ℕ). from_line true ACommand (r.line + 1) l) (sym same.ahead ∙ sym (take-append-drop skip s.ahead) ∙ ap (λ (l : List ℕ). take skip s.ahead ++ l) (sym ahead))
-                  ∙ up_to_records true t.ahead (λ e. true_false (sym e ∙ lack.0))
-                  ∙ found.1,
-            ),
-          )
+      -- where the record lines lack something, so does the command
+      pub needs_records : t.ended ≡ false → (x : List ℕ) → RecordsLack t.line n (t.ahead ++ x) → NeedsMore r.line (take skip s.ahead ++ (t.ahead ++ x))
+      needs_records open' x lack = let found = lack head in (found.0, up_to_records true (t.ahead ++ x) (λ e. true_false (sym e ∙ open')) ∙ found.1)
 
       pub command_is : (got : List (List ℕ)) → RecordsAre t.line n u.line u.ended u.room used u.ahead (Ok got) → CommandIs r.line u.line t.line u.ended u.room (take skip s.ahead ++ used) u.ahead (Ok (Some (command_of head got)))
       command_is got records full x goes =
@@ -236,56 +225,98 @@ module _ (r s t : Reading) (lr ls : Option (List ℕ)) (looks : Uses r s lr ls [
                 ∙ other.1 full x comes,
           ))
 
--- a look takes where the next line is not held
-pub line_lacks : {S : Type 0} (a b : S) (r s : Reading) → LineTaken a b r s → s.ended ≡ false → Lacks s.ahead → (r.ended ≡ false) × Lacks r.ahead
-line_lacks a b r s (inl same) open' lacks = (sym same.ended ∙ open', subst Lacks same.ahead lacks)
-line_lacks a b r s (inr lack) open' lacks = lack
+-- behind bytes that are held or used, and those that came since, a piece comes at most
+module _ {S : Type 0} (lacks : List ℕ → Type 0) (a b c : S) (r s : Reading) (used : List ℕ) where
+  took_later : (others : List ℕ → Type 0) (came after : List ℕ) → used ++ s.ahead ≡ r.ahead ++ came → (took : Took others s.ahead after) → lacks (used ++ (s.ahead ++ took.first)) → Took lacks r.ahead (used ++ after)
+  took_later others came after held took lack = record {
+    first = came ++ took.first;
+    last = took.last;
+    bytes = ap (λ (l : List ℕ). used ++ l) took.bytes ∙ sym (append_assoc used s.ahead (took.first ++ took.last)) ∙ ap (λ (l : List ℕ). l ++ (took.first ++ took.last)) held
+        ∙ append_assoc r.ahead came (took.first ++ took.last) ∙ ap (λ (l : List ℕ). r.ahead ++ l) (sym (append_assoc came took.first took.last));
+    piece = took.piece;
+    lacked = subst lacks (sym (append_assoc used s.ahead took.first) ∙ ap (λ (l : List ℕ). l ++ took.first) held ∙ append_assoc r.ahead came took.first) lack;
+  }
 
-pub line_same : {S : Type 0} (a b : S) (r s t : Reading) → LineTaken a b r s → t.ended ≡ s.ended → t.ahead ≡ s.ahead → LineTaken a b r t
-line_same a b r s t (inl same) ended ahead = inl (record { source = same.source; ended = ended ∙ same.ended; ahead = ahead ∙ same.ahead })
-line_same a b r s t (inr lack) ended ahead = inr lack
+  -- a reader goes on: what is lacking behind s, of which `others` speaks, is lacking behind r
+  module _ (others : List ℕ → Type 0) (t : Reading) (more : List ℕ) (lacking : s.ended ≡ false → (x : List ℕ) → others (s.ahead ++ x) → lacks (used ++ (s.ahead ++ x))) where
+    longer : Took lacks r.ahead (used ++ (more ++ t.ahead)) → Took lacks r.ahead ((used ++ more) ++ t.ahead)
+    longer took = subst (λ (l : List ℕ). Took lacks r.ahead l) (sym (append_assoc used more t.ahead)) took
 
--- nothing was taken since a state whose bytes ahead were used up to these
-pub record Held {S : Type 0} (a b : S) (r s : Reading) (used : List ℕ) : Type 0 where
-  pub source : b ≡ a
-  pub ended : s.ended ≡ r.ended
-  pub ahead : r.ahead ≡ used ++ s.ahead
+    pub taken_then : TakenWhere lacks a b r s used → TakenWhere others b c s t more → TakenWhere lacks a c r t (used ++ more)
+    taken_then (inl held) (inl still) = inl (record {
+      source = still.source ∙ held.source;
+      ended = still.ended ∙ held.ended;
+      ahead = held.ahead ∙ ap (λ (l : List ℕ). used ++ l) still.ahead ∙ sym (append_assoc used more t.ahead);
+    })
+    taken_then (inl held) (inr took) = inr (
+      sym held.ended ∙ took.0,
+      longer (took_later others [] (more ++ t.ahead) (sym held.ahead ∙ sym (append-nil r.ahead)) took.1 (lacking took.0 took.1.first took.1.lacked)),
+    )
+    taken_then (inr before) (inl still) = inr (before.0, longer (subst (λ (l : List ℕ). Took lacks r.ahead (used ++ l)) still.ahead before.1))
+    taken_then (inr before) (inr took) = inr (
+      before.0,
+      longer (took_later others (before.1.first ++ before.1.last) (more ++ t.ahead) before.1.bytes took.1 (lacking took.0 took.1.first took.1.lacked)),
+    )
 
-module _ {S : Type 0} (at n left : ℕ) (a b c : S) (r s t : Reading) (got : List (List ℕ)) (used : List ℕ) where
-  pub records_taken : IsReading at n s left got used → 0 < left → Held a b r s used ⊎ RecordsLack at n r → LineTaken b c s t → Held a c r t used ⊎ RecordsLack at n r
-  records_taken reading some (inr lack) line = inr lack
-  records_taken reading some (inl held) (inl same) = inl (record {
-    source = same.source ∙ held.source;
-    ended = same.ended ∙ held.ended;
-    ahead = held.ahead ∙ ap (λ (l : List ℕ). used ++ l) (sym same.ahead);
-  })
-  records_taken reading some (inl held) (inr lack) = inr (
-    sym held.ended ∙ lack.0,
-    λ head. (
+-- nothing was taken yet
+pub taken_none : {S : Type 0} (lacks : List ℕ → Type 0) (a : S) (r : Reading) → TakenWhere lacks a a r r []
+taken_none lacks a r = inl (record { source = refl; ended = refl; ahead = refl })
+
+pub taken_same : {S : Type 0} (lacks : List ℕ → Type 0) (a b : S) (r s t : Reading) (used : List ℕ) → t.ended ≡ s.ended → t.ahead ≡ s.ahead → TakenWhere lacks a b r s used → TakenWhere lacks a b r t used
+taken_same lacks a b r s t used ended ahead (inl held) = inl (record { source = held.source; ended = ended ∙ held.ended; ahead = held.ahead ∙ ap (λ (l : List ℕ). used ++ l) (sym ahead) })
+taken_same lacks a b r s t used ended ahead (inr took) = inr (took.0, subst (λ (l : List ℕ). Took lacks r.ahead (used ++ l)) (sym ahead) took.1)
+
+-- a source that ended has nothing left
+ended_empty : (l m : Option (List ℕ)) (Ended : Type 0) → Told l m (λ x y. Ended → y ≡ []) → Ended → (z : List ℕ) → m ≡ Some z → z ≡ []
+ended_empty None None Ended told is z e = cc
+ended_empty None (Some y) Ended told is z e = absurd told
+ended_empty (Some x) None Ended told is z e = absurd told
+ended_empty (Some x) (Some y) Ended told is z e = let empty = told is in cc
+
+-- a piece was taken, or none
+module _ (s t : Reading) (l m : Option (List ℕ)) (open' : s.ended ≡ false) where
+  pub uses_filled : Told l m (λ x y. s.ahead ++ x ≡ t.ahead ++ y) → t.room + length t.ahead ≡ s.room + length s.ahead → Uses s t l m []
+  uses_filled told count = record { bytes = record { bytes = told; stays = λ e. true_false (sym e ∙ open'); ends = λ is. refl }; count = omega (arith, count) }
+
+  pub sound_filled : Sound s l → 0 < s.room → Told l m (λ x y. t.ended ≡ true → y ≡ []) → (t.ended ≡ true → t.room ≡ s.room) → t.room + length t.ahead ≡ s.room + length s.ahead → t.line ≡ s.line → Sound t m
+  sound_filled sound some end off count line = record { empty = λ e. ended_empty l m (t.ended ≡ true) end e; more = λ e. omega (arith, some, off e); size = omega (arith, sound.size, count, line) }
+
+-- a look takes one piece more where the next line is not held
+pub line_more : {S : Type 0} (a b c : S) (r s t : Reading) → s.ended ≡ false → Lacks s.ahead → take (length s.ahead) t.ahead ≡ s.ahead → length t.ahead ≤ length s.ahead + 65536 → TakenWhere Lacks a b r s [] → TakenWhere Lacks a c r t []
+line_more a b c r s t open' lack front most before = taken_then Lacks a b c r s [] Lacks t [] (λ _ x l. l) before (inr (
+  open',
+  record {
+    first = [];
+    last = drop (length s.ahead) t.ahead;
+    bytes = sym (take-append-drop (length s.ahead) t.ahead) ∙ ap (λ (l : List ℕ). l ++ drop (length s.ahead) t.ahead) front;
+    piece = omega (arith, length-drop (length s.ahead) t.ahead, most);
+    lacked = subst Lacks (sym (append-nil s.ahead)) lack;
+  },
+))
+
+-- a line ahead is used
+pub taken_line : {S : Type 0} (lacks : List ℕ → Type 0) (a b : S) (r s t : Reading) (used : List ℕ) (skip : ℕ) → t.ended ≡ s.ended → t.ahead ≡ drop skip s.ahead → TakenWhere lacks a b r s used → TakenWhere lacks a b r t (used ++ take skip s.ahead)
+taken_line lacks a b r s t used skip ended ahead before =
+    taken_then lacks a b b r s used (λ _. ⊥) t (take skip s.ahead) (λ _ x no. absurd no) before
+    (inl (record { source = refl; ended = ended; ahead = sym (take-append-drop skip s.ahead) ∙ ap (λ (l : List ℕ). take skip s.ahead ++ l) (sym ahead) }))
+
+-- a record line is looked for
+pub taken_record : {S : Type 0} (at n left : ℕ) (a b c : S) (r s t : Reading) (got : List (List ℕ)) (used : List ℕ) → IsReading at n s left got used → 0 < left → TakenWhere (RecordsLack at n) a b r s used → TakenWhere Lacks b c s t [] → TakenWhere (RecordsLack at n) a c r t used
+taken_record at n left a b c r s t got used reading some before look =
+    subst (λ (l : List ℕ). TakenWhere (RecordsLack at n) a c r t l) (append-nil used)
+    (taken_then (RecordsLack at n) a b c r s used Lacks t [] lacking before look)
+  where
+    lacking : s.ended ≡ false → (x : List ℕ) → Lacks (s.ahead ++ x) → RecordsLack at n (used ++ (s.ahead ++ x))
+    lacking open' x lack head = (
       s.line + 1,
-      ap (λ (l : List ℕ). after_records at head n [] (λ next. from_line true next (at + 1) l)) held.ahead
-          ∙ reading head true s.ahead (λ e. true_false (sym e ∙ lack.0))
-          ∙ one_read at head left got (λ next. from_line true next (s.line + 1) s.ahead) some
-          ∙ lack.1 (ARecord at head (left - 1) got) (s.line + 1),
-    ),
-  )
+      reading head true (s.ahead ++ x) (λ e. true_false (sym e ∙ open'))
+          ∙ one_read at head left got (λ next. from_line true next (s.line + 1) (s.ahead ++ x)) some
+          ∙ lack (ARecord at head (left - 1) got) (s.line + 1),
+    )
 
-pub held_line : {S : Type 0} (at n : ℕ) (a b : S) (r s t : Reading) (used : List ℕ) (skip : ℕ) → t.ended ≡ s.ended → t.ahead ≡ drop skip s.ahead → Held a b r s used ⊎ RecordsLack at n r → Held a b r t (used ++ take skip s.ahead) ⊎ RecordsLack at n r
-held_line at n a b r s t used skip ended ahead (inr lack) = inr lack
-held_line at n a b r s t used skip ended ahead (inl held) = inl (record {
-  source = held.source;
-  ended = ended ∙ held.ended;
-  ahead = held.ahead ∙ ap (λ (l : List ℕ). used ++ l) (sym (take-append-drop skip s.ahead) ∙ ap (λ (l : List ℕ). take skip s.ahead ++ l) (sym ahead)) ∙ sym (append_assoc used (take skip s.ahead) t.ahead);
-})
-
-pub records_touch : {S : Type 0} (at n : ℕ) (a b : S) (r s : Reading) (used : List ℕ) → Held a b r s used ⊎ RecordsLack at n r → (b ≡ a) ⊎ RecordsLack at n r
-records_touch at n a b r s used (inl held) = inl held.source
-records_touch at n a b r s used (inr lack) = inr lack
-
--- a command line that was not held
-pub line_touch : {S : Type 0} (a b : S) (r s : Reading) → LineTaken a b r s → Taken a b r
-line_touch a b r s (inl same) = inl same.source
-line_touch a b r s (inr lack) = inr (lack.0, (r.line + 1, lack.1 ACommand (r.line + 1)))
+-- a command line is looked for
+pub taken_command : {S : Type 0} (a b : S) (r s : Reading) → TakenWhere Lacks a b r s [] → TakenWhere (NeedsMore r.line) a b r s []
+taken_command a b r s look = taken_then (NeedsMore r.line) a a b r r [] Lacks s [] (λ _ x lack. (r.line + 1, lack ACommand (r.line + 1))) (taken_none (NeedsMore r.line) a r) look
 
 -- whether the records of a command fit, by their text
 pub fits_not : (records : List (List ℕ)) (n : ℕ) → n ≡ length (text_of records) → 268435456 < n → fits_command records ≡ false

@@ -126,24 +126,29 @@ pub record SamePlace (old new : Reading) : Type 0 where
   pub last : new.last ≡ old.last
   pub fault : new.fault ≡ old.fault
 
--- nothing was taken: the source is as before, and so is what the reader holds
-pub record Untouched {S : Type 0} (old_source new_source : S) (old new : Reading) : Type 0 where
+-- nothing was taken: the source is as before, and of what was held `used` was used
+pub record Held {S : Type 0} (old_source new_source : S) (old new : Reading) (used : List ℕ) : Type 0 where
   pub source : new_source ≡ old_source
   pub ended : new.ended ≡ old.ended
-  pub ahead : new.ahead ≡ old.ahead
+  pub ahead : old.ahead ≡ used ++ new.ahead
 
--- where something was taken, the next line was not held
-abbrev pub LineTaken : {S : Type 0} → S → S → Reading → Reading → Type 0
-LineTaken old_source new_source old new = Untouched old_source new_source old new ⊎ (old.ended ≡ false) × Lacks old.ahead
+-- behind the bytes `before` came `first` and then `last`, a piece at most, which was taken where what stood before it
+-- lacked something
+pub record Took (lacks : List ℕ → Type 0) (before after : List ℕ) : Type 0 where
+  pub first : List ℕ
+  pub last : List ℕ
+  pub bytes : after ≡ before ++ (first ++ last)
+  pub piece : length last ≤ 65536
+  pub lacked : lacks (before ++ first)
 
--- the bytes ahead of a reader lack a record line of the command on line `at`, and more may come
-abbrev pub RecordsLack : ℕ → ℕ → Reading → Type 0
-RecordsLack at n r = (r.ended ≡ false) × ((head : Head) → (num : ℕ) × (after_records at head n [] (λ next. from_line true next (at + 1) r.ahead) ≡ ([], Faulty num LongScript)))
+-- where something was taken, the source had not ended, and what was held before the last piece lacked something
+abbrev pub TakenWhere : {S : Type 0} → (List ℕ → Type 0) → S → S → Reading → Reading → List ℕ → Type 0
+TakenWhere lacks old_source new_source old new used = Held old_source new_source old new used ⊎ (old.ended ≡ false) × Took lacks old.ahead (used ++ new.ahead)
 
--- the bytes ahead of a reader do not show yet what comes next, and more may come
-abbrev pub NeedsMore : Reading → Type 0
-NeedsMore r = (r.ended ≡ false) × ((num : ℕ) × (from_line true ACommand (r.line + 1) r.ahead ≡ ([], Faulty num LongScript)))
+-- these bytes lack a record line of the command on line `at`, where more may come
+abbrev pub RecordsLack : ℕ → ℕ → List ℕ → Type 0
+RecordsLack at n ahead = (head : Head) → (num : ℕ) × (after_records at head n [] (λ next. from_line true next (at + 1) ahead) ≡ ([], Faulty num LongScript))
 
--- where something was taken, the bytes ahead did not show what comes next
-abbrev pub Taken : {S : Type 0} → S → S → Reading → Type 0
-Taken old_source new_source old = (new_source ≡ old_source) ⊎ NeedsMore old
+-- these bytes behind line `line` do not show yet what comes next, where more may come
+abbrev pub NeedsMore : ℕ → List ℕ → Type 0
+NeedsMore line ahead = (num : ℕ) × (from_line true ACommand (line + 1) ahead ≡ ([], Faulty num LongScript))

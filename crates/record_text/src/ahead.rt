@@ -112,6 +112,8 @@ impl Ahead {
         ensures bytes { Told (S.left source.old) (S.left source.new) (λ l m. self.old ++ l ≡ self.new ++ m) }
         ensures count { IfOk result (λ n. length self.new ≡ length self.old + n) }
         ensures most { IfOk result (λ n. n ≤ most) }
+        ensures piece { IfOk result (λ n. n ≤ 65536) }
+        ensures front { take (length self.old) self.new ≡ self.old }
         ensures end { IfOk result (λ n. n ≡ 0 → Told (S.left source.old) (S.left source.new) (λ l m. m ≡ [])) }
         ensures err { OnErr result (self.new ≡ self.old) }
         ensures later { S.faults source.old ≤ S.faults source.new }

@@ -1,8 +1,8 @@
 // Reads the commands of a script from a source.
-ghost use Rattle.std.specs.Prelude.{◌≡◌, ◌≢◌, ◌<◌, ◌≤◌, ◌+◌, ◌-◌, ◌^◌, ◌++◌, ◌⊎◌, [], ℕ, List, length, true, false, IfOk, IfErr, IsErrOf, IsSome, None, Some, Err};
+ghost use Rattle.std.specs.Prelude.{◌≡◌, ◌≢◌, ◌<◌, ◌≤◌, ◌+◌, ◌-◌, ◌^◌, ◌++◌, ◌⊎◌, [], ℕ, List, length, take, true, false, IfOk, IfErr, IsErrOf, IsSome, None, Some, Err};
 ghost use Rattle.definitions.specs.Outside.{Told, Rose};
 ghost use Rattle.record_text.specs.Script.{commands};
-ghost use Rattle.record_text.specs.Reading.{Sound, Uses, LookIs, RecordsAre, CommandIs, NextLineIs, NextTold, NextTaken, LastIs, SamePlace, LineTaken, RecordsLack, Taken, to_come};
+ghost use Rattle.record_text.specs.Reading.{Sound, Uses, LookIs, RecordsAre, CommandIs, NextLineIs, NextTold, NextTaken, LastIs, SamePlace, TakenWhere, Lacks, RecordsLack, NeedsMore, to_come};
 ghost use Rattle.record_text.specs.declared.script_fault.ScriptFault.{ScriptFault};
 ghost use Rattle.record_text.specs.declared.script_fault.Why.TheVariants.{Read, Mem};
 
@@ -81,6 +81,8 @@ impl<'a, S: Source> ScriptReader<'a, S> {
         ensures on { IfOk result (λ _. self.new.reading.ended ≡ false → self.new.reading.room < self.old.reading.room) }
         ensures off { self.new.reading.ended ≡ true → self.new.reading.room ≡ self.old.reading.room }
         ensures place { SamePlace self.old.reading self.new.reading }
+        ensures front { IfOk result (λ _. take (length self.old.reading.ahead) self.new.reading.ahead ≡ self.old.reading.ahead) }
+        ensures piece { IfOk result (λ _. length self.new.reading.ahead ≤ length self.old.reading.ahead + 65536) }
         ensures later { S.faults self.old.source.now ≤ S.faults self.new.source.now }
         ensures failed { IsErrOf result Why.Read → Rose (S.faults self.old.source.now) (S.faults self.new.source.now) }
         ensures only { IfErr result (λ why. (why ≡ Read) ⊎ (why ≡ Mem)) }
@@ -107,7 +109,7 @@ impl<'a, S: Source> ScriptReader<'a, S> {
         ensures used { Uses self.old.reading self.new.reading (S.left self.old.source.now) (S.left self.new.source.now) [] }
         ensures sound { Sound self.new.reading (S.left self.new.source.now) }
         ensures place { SamePlace self.old.reading self.new.reading }
-        ensures touch { LineTaken self.old.source.now self.new.source.now self.old.reading self.new.reading }
+        ensures touch { TakenWhere Lacks self.old.source.now self.new.source.now self.old.reading self.new.reading [] }
         ensures later { S.faults self.old.source.now ≤ S.faults self.new.source.now }
         ensures failed { IsErrOf result Why.Read → Rose (S.faults self.old.source.now) (S.faults self.new.source.now) }
     {
@@ -135,7 +137,7 @@ impl<'a, S: Source> ScriptReader<'a, S> {
         ensures same { self.new.source.ghost_name ≡ self.old.source.ghost_name }
         ensures sound { Sound self.new.reading (S.left self.new.source.now) }
         ensures place { SamePlace self.old.reading self.new.reading }
-        ensures touch { LineTaken self.old.source.now self.new.source.now self.old.reading self.new.reading }
+        ensures touch { TakenWhere Lacks self.old.source.now self.new.source.now self.old.reading self.new.reading [] }
         ensures later { S.faults self.old.source.now ≤ S.faults self.new.source.now }
         ensures failed { IfErr result (λ fault. fault.why ≡ Read → Rose (S.faults self.old.source.now) (S.faults self.new.source.now)) }
         ensures at { IfErr result (λ fault. fault.line ≡ self.new.reading.line + 1) }
@@ -170,7 +172,8 @@ impl<'a, S: Source> ScriptReader<'a, S> {
         ensures failed { IfErr result (λ fault. fault.why ≡ Read → Rose (S.faults self.old.source.now) (S.faults self.new.source.now)) }
         ensures at { IfErr result (λ fault. (fault.why ≡ Read) ⊎ (fault.why ≡ Mem) → fault.line ≡ self.new.reading.line + 1) }
         ensures on { self.old.reading.line ≤ self.new.reading.line }
-        ensures touch { (self.new.source.now ≡ self.old.source.now) ⊎ RecordsLack self.old.reading.line n self.old.reading }
+        ensures touch { (used : List ℕ) × Uses self.old.reading self.new.reading (S.left self.old.source.now) (S.left self.new.source.now) used
+            × TakenWhere (RecordsLack self.old.reading.line n) self.old.source.now self.new.source.now self.old.reading self.new.reading used }
         ensures count { self.new.reading.line + (self.new.reading.room + length self.new.reading.ahead) ≤ self.old.reading.line + (self.old.reading.room + length self.old.reading.ahead) }
     {
         let at = self.reading.line;
@@ -216,7 +219,8 @@ impl<'a, S: Source> ScriptReader<'a, S> {
         ensures failed { IfErr result (λ fault. fault.why ≡ Read → Rose (S.faults self.old.source.now) (S.faults self.new.source.now)) }
         ensures at { IfErr result (λ fault. (fault.why ≡ Read) ⊎ (fault.why ≡ Mem) → fault.line ≡ self.new.reading.line + 1) }
         ensures moved { IfOk result (λ c. IsSome c → self.old.reading.line < self.new.reading.line) }
-        ensures touch { Taken self.old.source.now self.new.source.now self.old.reading }
+        ensures touch { (used : List ℕ) × Uses self.old.reading self.new.reading (S.left self.old.source.now) (S.left self.new.source.now) used
+            × TakenWhere (NeedsMore self.old.reading.line) self.old.source.now self.new.source.now self.old.reading self.new.reading used }
         ensures count { self.new.reading.line + (self.new.reading.room + length self.new.reading.ahead) ≤ self.old.reading.line + (self.old.reading.room + length self.old.reading.ahead) }
         ensures behind { IfOk result (λ c. IsSome c → self.new.reading.last ≤ self.new.reading.line) }
     {
@@ -265,7 +269,8 @@ impl<'a, S: Source> ScriptReader<'a, S> {
         ensures failed { IfErr result (λ fault. (reading_of self.old).fault ≡ None → fault.why ≡ Read → Rose (S.faults (source_of self.old).now) (S.faults (source_of self.new).now)) }
         ensures at { IfErr result (λ fault. (reading_of self.old).fault ≡ None → (fault.why ≡ Read) ⊎ (fault.why ≡ Mem) → fault.line ≡ (reading_of self.new).line + 1) }
         ensures moved { IfOk result (λ c. IsSome c → (reading_of self.old).line < (reading_of self.new).line) }
-        ensures touch { Taken (source_of self.old).now (source_of self.new).now (reading_of self.old) }
+        ensures touch { (used : List ℕ) × Uses (reading_of self.old) (reading_of self.new) (S.left (source_of self.old).now) (S.left (source_of self.new).now) used
+            × TakenWhere (NeedsMore (reading_of self.old).line) (source_of self.old).now (source_of self.new).now (reading_of self.old) (reading_of self.new) used }
         ensures count { (reading_of self.new).line + ((reading_of self.new).room + length (reading_of self.new).ahead) ≤ (reading_of self.old).line + ((reading_of self.old).room + length (reading_of self.old).ahead) }
         ensures behind { IfOk result (λ c. IsSome c → (reading_of self.new).last ≤ (reading_of self.new).line) }
     {

@@ -221,6 +221,20 @@ fn a_failed_take_is_answered_from_then_on(rt: HostRuntime) -> Result<(), AllocEr
 }
 
 #[test]
+fn a_reader_takes_no_more_than_it_needs(rt: HostRuntime) -> Result<(), AllocError> {
+    let alloc = rt.alloc();
+    let mut source = MemSource::new(b"run\nrun\n".to_vec(alloc)?, 4, Vec::new(alloc));
+    let mut reader = ScriptReader::new(&mut source, alloc, 1000);
+    let first = reader.next(alloc);
+    assert!(rt; matches!(first, Ok(Some(Command::Run))));
+    let source = reader.into_source();
+    let mut rest = [0u8; 8];
+    assert!(rt; source.take(&mut rest) == Ok(4));
+    assert!(rt; &rest[..4] == b"run\n".as_slice());
+    Ok(())
+}
+
+#[test]
 fn a_last_line_without_lf_and_a_long_record(rt: HostRuntime) -> Result<(), AllocError> {
     let alloc = rt.alloc();
     let mut script = b"bucket 1\n".to_vec(alloc)?;

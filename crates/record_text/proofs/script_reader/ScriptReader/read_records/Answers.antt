@@ -1,7 +1,8 @@
 use Rattle.std.proofs.Common.{◌≡◌, ◌+◌, ◌-◌, [], ◌∷◌, ◌++◌, length, take, List, ℕ, arith, refl, ap, ◌∙◌}
 use Rattle.record_text.specs.declared.reading.Reading.{Reading}
 use Rattle.record_text.proofs.SpanLaws.{length_push}
-use Rattle.record_text.proofs.ReadLaws.{uses_more, uses_then, uses_line, records_taken, held_line, records_touch, count_line, sound_line, short, stops, reads_line, large, fits_not, fits_all}
+use Rattle.record_text.specs.Reading.{RecordsLack}
+use Rattle.record_text.proofs.ReadLaws.{uses_more, uses_then, uses_line, taken_record, taken_line, count_line, sound_line, short, stops, reads_line, large, fits_not, fits_all}
 use Rattle.record_text.proofs.script_reader.ScriptReader.read_records.Goals as goal
 
 pub returns-in-Ok-None-clause-reads : goal.returns-in-Ok-None-clause-reads
@@ -58,7 +59,8 @@ lines-preserved g c =
         used = uses_then s0 s2 t l0 l2 l2 bytes (take skip s2.ahead) (uses_more s0 s1 s2 l0 l1 l2 bytes inv.used e.used) (uses_line s2 t l2 len skip is c.skip.ensures refl refl);
         reads = reads_line s0.line c.args.n (c.args.n - c.lines.counter) s1 s2 c.lines.got bytes l1 l2 inv.reads e.used e.place (omega (arith, c.lines-test.true)) t len skip is c.skip.ensures refl refl refl c.push.new.self pushed
             (c.args.n - (c.lines.counter + 1)) (omega arith) (fits_all c.push.new.self c.text_len.result c.text_len.ensures c.if-text_len-gt-MOST_TEXT.false);
-        touch = held_line s0.line c.args.n c.args.self.now.source.now c.next_line.new.self.source.now s0 s2 t bytes skip refl c.skip.ensures (records_taken s0.line c.args.n (c.args.n - c.lines.counter) c.args.self.now.source.now c.lines.self.source.now c.next_line.new.self.source.now s0 s1 s2 c.lines.got bytes inv.reads (omega (arith, c.lines-test.true)) inv.touch e.touch);
+        touch = taken_line (RecordsLack s0.line c.args.n) c.args.self.now.source.now c.next_line.new.self.source.now s0 s2 t bytes skip refl c.skip.ensures
+            (taken_record s0.line c.args.n (c.args.n - c.lines.counter) c.args.self.now.source.now c.lines.self.source.now c.next_line.new.self.source.now s0 s1 s2 c.lines.got bytes inv.reads (omega (arith, c.lines-test.true)) inv.touch e.touch);
         sound = sound_line s2 t l2 len skip is c.skip.ensures refl refl e.sound refl;
         count = omega (arith, inv.count, e.used.count, e.place.line, count_line s2 t l2 len skip is c.skip.ensures refl refl refl);
         on = omega (arith, inv.on, e.place.line);
@@ -73,35 +75,49 @@ pub returns-in-Ok-None-clause-touch : goal.returns-in-Ok-None-clause-touch
 returns-in-Ok-None-clause-touch g c =
     let bytes = c.lines.invariant.0 in let inv = c.lines.invariant.1 in
     let s0 = c.args.self.now.reading in let s1 = c.lines.self.reading in let s2 = c.next_line.new.self.reading in
-    let e = c.in-Ok-None.ensures in
-    records_touch s0.line c.args.n c.args.self.now.source.now c.next_line.new.self.source.now s0 s2 bytes
-    (records_taken s0.line c.args.n (c.args.n - c.lines.counter) c.args.self.now.source.now c.lines.self.source.now c.next_line.new.self.source.now s0 s1 s2 c.lines.got bytes inv.reads (omega (arith, c.lines-test.true)) inv.touch e.touch)
+    let l0 = g.S.Source.left c.args.self.now.source.now in let l1 = g.S.Source.left c.lines.self.source.now in let l2 = g.S.Source.left c.next_line.new.self.source.now in
+    let e = c.in-Ok-None.ensures in (
+      bytes,
+      uses_more s0 s1 s2 l0 l1 l2 bytes inv.used e.used,
+      taken_record s0.line c.args.n (c.args.n - c.lines.counter) c.args.self.now.source.now c.lines.self.source.now c.next_line.new.self.source.now s0 s1 s2 c.lines.got bytes inv.reads (omega (arith, c.lines-test.true)) inv.touch e.touch,
+    )
 
 pub returns-in-Err-clause-touch : goal.returns-in-Err-clause-touch
 returns-in-Err-clause-touch g c =
     let bytes = c.lines.invariant.0 in let inv = c.lines.invariant.1 in
     let s0 = c.args.self.now.reading in let s1 = c.lines.self.reading in let s2 = c.next_line.new.self.reading in
-    let e = c.in-Err.ensures in
-    records_touch s0.line c.args.n c.args.self.now.source.now c.next_line.new.self.source.now s0 s2 bytes
-    (records_taken s0.line c.args.n (c.args.n - c.lines.counter) c.args.self.now.source.now c.lines.self.source.now c.next_line.new.self.source.now s0 s1 s2 c.lines.got bytes inv.reads (omega (arith, c.lines-test.true)) inv.touch e.touch)
+    let l0 = g.S.Source.left c.args.self.now.source.now in let l1 = g.S.Source.left c.lines.self.source.now in let l2 = g.S.Source.left c.next_line.new.self.source.now in
+    let e = c.in-Err.ensures in (
+      bytes,
+      uses_more s0 s1 s2 l0 l1 l2 bytes inv.used e.used,
+      taken_record s0.line c.args.n (c.args.n - c.lines.counter) c.args.self.now.source.now c.lines.self.source.now c.next_line.new.self.source.now s0 s1 s2 c.lines.got bytes inv.reads (omega (arith, c.lines-test.true)) inv.touch e.touch,
+    )
 
 pub returns-then-text_len-gt-MOST_TEXT-clause-touch : goal.returns-then-text_len-gt-MOST_TEXT-clause-touch
 returns-then-text_len-gt-MOST_TEXT-clause-touch g c =
     let bytes = c.lines.invariant.0 in let inv = c.lines.invariant.1 in
     let s0 = c.args.self.now.reading in let s1 = c.lines.self.reading in let s2 = c.next_line.new.self.reading in
+    let l0 = g.S.Source.left c.args.self.now.source.now in let l1 = g.S.Source.left c.lines.self.source.now in let l2 = g.S.Source.left c.next_line.new.self.source.now in
     let e = c.in-Ok-Some.ensures in
-    records_touch s0.line c.args.n c.args.self.now.source.now c.next_line.new.self.source.now s0 s2 bytes
-    (records_taken s0.line c.args.n (c.args.n - c.lines.counter) c.args.self.now.source.now c.lines.self.source.now c.next_line.new.self.source.now s0 s1 s2 c.lines.got bytes inv.reads (omega (arith, c.lines-test.true)) inv.touch e.touch)
+    let len = c.in-Ok-Some.line.0 in let skip = c.in-Ok-Some.line.1 in
+    let is = rw c.in-Ok-Some.field-0-is at e.line in
+    let t : Reading = record s2 { ahead = c.skip.new.self; line = s2.line + 1 } in (
+      bytes ++ take skip s2.ahead,
+      uses_then s0 s2 t l0 l2 l2 bytes (take skip s2.ahead) (uses_more s0 s1 s2 l0 l1 l2 bytes inv.used e.used) (uses_line s2 t l2 len skip is c.skip.ensures refl refl),
+      taken_line (RecordsLack s0.line c.args.n) c.args.self.now.source.now c.next_line.new.self.source.now s0 s2 t bytes skip refl c.skip.ensures
+          (taken_record s0.line c.args.n (c.args.n - c.lines.counter) c.args.self.now.source.now c.lines.self.source.now c.next_line.new.self.source.now s0 s1 s2 c.lines.got bytes inv.reads (omega (arith, c.lines-test.true)) inv.touch e.touch),
+    )
 
 pub returns-clause-touch : goal.returns-clause-touch
-returns-clause-touch g c =
-    let bytes = c.lines.invariant.0 in let inv = c.lines.invariant.1 in
-    records_touch c.args.self.now.reading.line c.args.n c.args.self.now.source.now c.lines.self.source.now c.args.self.now.reading c.lines.self.reading bytes inv.touch
+returns-clause-touch g c = let inv = c.lines.invariant.1 in (c.lines.invariant.0, inv.used, inv.touch)
 
 pub returns-in-Err-push-clause-touch : goal.returns-in-Err-push-clause-touch
 returns-in-Err-push-clause-touch g c =
     let bytes = c.lines.invariant.0 in let inv = c.lines.invariant.1 in
     let s0 = c.args.self.now.reading in let s1 = c.lines.self.reading in let s2 = c.next_line.new.self.reading in
-    let e = c.in-Ok-Some.ensures in
-    records_touch s0.line c.args.n c.args.self.now.source.now c.next_line.new.self.source.now s0 s2 bytes
-    (records_taken s0.line c.args.n (c.args.n - c.lines.counter) c.args.self.now.source.now c.lines.self.source.now c.next_line.new.self.source.now s0 s1 s2 c.lines.got bytes inv.reads (omega (arith, c.lines-test.true)) inv.touch e.touch)
+    let l0 = g.S.Source.left c.args.self.now.source.now in let l1 = g.S.Source.left c.lines.self.source.now in let l2 = g.S.Source.left c.next_line.new.self.source.now in
+    let e = c.in-Ok-Some.ensures in (
+      bytes,
+      uses_more s0 s1 s2 l0 l1 l2 bytes inv.used e.used,
+      taken_record s0.line c.args.n (c.args.n - c.lines.counter) c.args.self.now.source.now c.lines.self.source.now c.next_line.new.self.source.now s0 s1 s2 c.lines.got bytes inv.reads (omega (arith, c.lines-test.true)) inv.touch e.touch,
+    )
