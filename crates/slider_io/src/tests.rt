@@ -6,6 +6,26 @@ use crate::{
 use std::alloc::AllocError;
 use std::io::{Error, ErrorKind, Read, Write};
 
+/// A writer whose flush is interrupted so many times.
+#[derive(Drop)]
+struct FlushedLate {
+    times: u32,
+}
+
+impl Write for FlushedLate {
+    fn write(&mut self, piece: &[u8]) -> Result<usize, Error> {
+        Ok(piece.len())
+    }
+
+    fn flush(&mut self) -> Result<(), Error> {
+        if self.times == 0 {
+            return Ok(());
+        }
+        self.times -= 1;
+        Err(Error::from(ErrorKind::Interrupted))
+    }
+}
+
 /// A reader and a writer that are interrupted so many times before each call, and then fail or not.
 #[derive(Drop)]
 struct Interrupted {
@@ -125,6 +145,15 @@ fn an_interrupted_call_is_tried_64_times(rt: HostRuntime) -> Result<(), AllocErr
         calls: 0,
     });
     assert_eq!(rt; put_all(&mut sink, b"ab"), Err(WriteFault::Failed));
+    Ok(())
+}
+
+#[test]
+fn an_interrupted_flush_is_tried_64_times(rt: HostRuntime) -> Result<(), AllocError> {
+    let mut sink = WriterSink::new(FlushedLate { times: 63 });
+    assert_eq!(rt; sink.put(b"ab"), Ok(2));
+    let mut sink = WriterSink::new(FlushedLate { times: 64 });
+    assert_eq!(rt; sink.put(b"ab"), Err(WriteFault::Failed));
     Ok(())
 }
 

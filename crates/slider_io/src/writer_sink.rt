@@ -37,6 +37,21 @@ impl<W: Write + Drop> WriterSink<W> {
     }
 }
 
+/// Flushes a writer, and answers whether it did; an interrupted flush is tried again.
+fn flush<W: Write>(inner: &mut W) -> bool {
+    'tries: for _ in 0..TRIES {
+        match inner.flush() {
+            Ok(()) => return true,
+            Err(e) => {
+                if e.kind() != ErrorKind::Interrupted {
+                    break;
+                }
+            }
+        }
+    }
+    false
+}
+
 impl<W: Write + Drop> Sink for WriterSink<W> {
     ghost held = { λ _. None };
 
@@ -58,7 +73,7 @@ impl<W: Write + Drop> Sink for WriterSink<W> {
                     if n == 0 && !piece.is_empty() {
                         break;
                     }
-                    if self.inner.flush().is_err() {
+                    if !flush(&mut self.inner) {
                         break;
                     }
                     return Ok(n);
