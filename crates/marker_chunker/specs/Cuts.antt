@@ -9,6 +9,7 @@ abbrev pub first_or : Option (List ℕ) → List (List ℕ) → Option (List ℕ
 first_or next [] = next
 first_or next (r ∷ rs) = Some r
 
+-- whether the last of these records is a marker; of no records, not
 abbrev pub last_marks : List (List ℕ) → Bool
 last_marks [] = false
 last_marks (r ∷ []) = is_marker r
@@ -28,6 +29,7 @@ unfoldable pub cut_on : List (List ℕ) → List (List ℕ) → List (List (List
 cut_on begun [] = begun ∷ []
 cut_on begun (r ∷ rs) = cond (ends begun (Some r)) (begun ∷ cut_on (r ∷ []) rs) (cut_on (begun ++ r ∷ []) rs)
 
+-- the chunks of a list of records, cut from nothing; no records have none
 unfoldable pub chunks_of : List (List ℕ) → List (List (List ℕ))
 chunks_of [] = []
 chunks_of (r ∷ rs) = cut_on (r ∷ []) rs
@@ -47,6 +49,7 @@ abbrev pub IsOpen : List (List ℕ) → List (List ℕ) → Type 0
 IsOpen begun [] = Unit {0}
 IsOpen begun (r ∷ rs) = (ends begun (Some r) ≡ false) × IsOpen (begun ++ r ∷ []) rs
 
+-- these records are one chunk, where `next` follows: they end there and not before
 abbrev pub IsChunk : List (List ℕ) → Option (List ℕ) → Type 0
 IsChunk [] next = ⊥
 IsChunk (r ∷ rs) next = GoesOn (r ∷ []) rs next

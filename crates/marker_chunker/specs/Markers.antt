@@ -6,9 +6,11 @@ abbrev pub polynomial : ℕ → List ℕ → ℕ
 polynomial m [] = 0
 polynomial m (b ∷ bs) = b * m ^ length bs + polynomial m bs
 
+-- the hash of a window: its polynomial at 16777619, modulo 2^32
 unfoldable pub window_hash : List ℕ → ℕ
 window_hash bytes = polynomial 16777619 bytes % 2 ^ 32
 
+-- whether a window marks: the lower 12 bits of its hash are all 1
 unfoldable pub marks : List ℕ → Bool
 marks window = window_hash window % 4096 == 4095
 

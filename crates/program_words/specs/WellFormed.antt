@@ -5,6 +5,7 @@ use Rattle.std.specs.Option.{option_map_or}
 use Rattle.std.specs.declared.option.Option.TheVariants.{Some, None}
 use Rattle.std.specs.Borrow.{Bor}
 
+-- a word, as its bytes
 abbrev pub Text : Type 0
 Text = List ℕ
 
@@ -12,6 +13,7 @@ Text = List ℕ
 abbrev pub option_names : List Text
 option_names = codes "job" ∷ codes "k" ∷ codes "tree" ∷ codes "buckets" ∷ codes "parts" ∷ codes "gen" ∷ []
 
+-- whether these bytes are the name of an option, whole
 unfoldable pub is_option : Text → Bool
 is_option name = list_any (λ n. bytes_eq name n) option_names
 

@@ -9,14 +9,19 @@ use Rattle.record_text.specs.Script.{Ending, commands}
 use Rattle.window_manager.specs.Windows.{WindowState}
 use Rattle.slider_session.specs.Output.{Meaning, output_of, ending_of}
 use Rattle.record_text.specs.Lines.{whole_lines}
-use Rattle.slider_session.specs.Serving.{Whole, AtFault, OfTaken}
+use Rattle.slider_session.specs.Serving.{Writes, Whole, AtFault, OfTaken, WritesFront}
 use Rattle.slider_program.specs.Words.{fault_line, end_line}
 use Rattle.program_words.specs.declared.plan.JobName.{JobName}
 use Rattle.program_words.specs.declared.plan.JobName.TheVariants.{Count, Index, Latest, TopK}
 use Rattle.slider_program.specs.Summaries.{most_script, summary_of}
 use Rattle.slider_program.specs.Program.{Seen, Tries, SumsUp, Answered, AnsweredBy, AnsweredFor}
 
-module _ {V : Type 0} (j : Meaning V) (w : WindowState) (old new : Seen) (status line : ℕ) (why : Why) (served : Told old.left new.left (λ script after. Told old.held new.held (AtFault j w most_script line why script after))) where
+-- a whole output is a front of itself
+front_of : {V : Type 0} (j : Meaning V) (w : WindowState) (old new : Seen) (script : List ℕ) → Writes j w most_script script old.held new.held → WritesFront j w most_script script old.held new.held
+front_of j w old new script written = told_with old.held new.held _ (GainsFront (output_of j w (commands most_script script))) written
+    (λ x y c d wrote. (output_of j w (commands most_script script), ([], sym (append-nil (output_of j w (commands most_script script)))), wrote))
+
+module _ {V : Type 0} (j : Meaning V) (w : WindowState) (old new : Seen) (status line : ℕ) (why : Why) (served : Told old.left new.left (λ script after. AtFault j w most_script line why script old.held new.held)) where
   neither : {A : Type 0} (n : ℕ) → (n ≢ 3) → (n ≢ 6) → (status ≡ 3) ⊎ (status ≡ 6) → status ≡ n → A
   neither n a b (inl is) e = absurd (a (sym e ∙ is))
   neither n a b (inr is) e = absurd (b (sym e ∙ is))
@@ -31,32 +36,28 @@ module _ {V : Type 0} (j : Meaning V) (w : WindowState) (old new : Seen) (status
     fault = λ e. (line, why, served, tried e);
     read = λ e. neither 4 (λ h. cc) (λ h. cc) known e;
     write = λ e. neither 5 (λ h. cc) (λ h. cc) known e;
-    front = told_with old.left new.left _ (λ script after. Told old.held new.held (GainsFront (output_of j w (commands most_script script)))) served (λ script after a b inner.
-        told_with old.held new.held (AtFault j w most_script line why script after) (GainsFront (output_of j w (commands most_script script))) inner (λ x y c d at. (output_of j w (commands most_script script), ([], sym (append-nil (output_of j w (commands most_script script)))), at.1)));
-    said = told_with old.left new.left _ (λ script after. Told old.held new.held (λ bytes more. Told old.said new.said (GainsFront (end_line (ending_of j w (commands most_script script)))))) served (λ script after a b inner.
-        told_with old.held new.held (AtFault j w most_script line why script after) (λ bytes more. Told old.said new.said (GainsFront (end_line (ending_of j w (commands most_script script))))) inner (λ x y c d at.
-        subst (λ (e : Ending). Told old.said new.said (GainsFront (end_line e))) (sym at.0) front));
+    front = told_with old.left new.left _ (λ script after. WritesFront j w most_script script old.held new.held) served (λ script after a b at. front_of j w old new script at.1);
+    said = told_with old.left new.left _ (λ script after. Told old.said new.said (GainsFront (end_line (ending_of j w (commands most_script script))))) served (λ script after a b at.
+        subst (λ (e : Ending). Told old.said new.said (GainsFront (end_line e))) (sym at.0) front);
     known = some_status known;
   }
 
 -- a status with nothing said on `err`, where a front of the output was written
 module _ {V : Type 0} (j : Meaning V) (w : WindowState) (old new : Seen) (quiet : new.said ≡ old.said) where
   -- the front of the output that was written where a read failed
-  of_taken : Told old.left new.left (λ script after. Told old.held new.held (OfTaken j w most_script script after)) → Told old.left new.left (λ script after. Told old.held new.held (GainsFront (output_of j w (commands most_script script))))
-  of_taken served = told_with old.left new.left _ (λ script after. Told old.held new.held (GainsFront (output_of j w (commands most_script script)))) served (λ script after a b inner.
-      told_with old.held new.held (OfTaken j w most_script script after) (GainsFront (output_of j w (commands most_script script))) inner (λ x y c d at. (output_of j w (commands most_script (whole_lines at.bytes)), at.front, at.written)))
+  of_taken : Told old.left new.left (λ script after. OfTaken j w most_script script after old.held new.held) → Told old.left new.left (λ script after. WritesFront j w most_script script old.held new.held)
+  of_taken served = told_with old.left new.left _ (λ script after. WritesFront j w most_script script old.held new.held) served (λ script after a b at.
+      told_with old.held new.held _ (GainsFront (output_of j w (commands most_script script))) at.written (λ x y c d wrote. (output_of j w (commands most_script (whole_lines at.bytes)), at.front, wrote)))
 
   -- the front of the output that was written where all of it was
-  of_whole : Told old.left new.left (λ script after. Told old.held new.held (Whole j w most_script script after)) → Told old.left new.left (λ script after. Told old.held new.held (GainsFront (output_of j w (commands most_script script))))
-  of_whole served = told_with old.left new.left _ (λ script after. Told old.held new.held (GainsFront (output_of j w (commands most_script script)))) served (λ script after a b inner.
-      told_with old.held new.held (Whole j w most_script script after) (GainsFront (output_of j w (commands most_script script))) inner (λ x y c d at. (output_of j w (commands most_script script), ([], sym (append-nil (output_of j w (commands most_script script)))), at.2)))
+  of_whole : Told old.left new.left (λ script after. Whole j w most_script script after old.held new.held) → Told old.left new.left (λ script after. WritesFront j w most_script script old.held new.held)
+  of_whole served = told_with old.left new.left _ (λ script after. WritesFront j w most_script script old.held new.held) served (λ script after a b at. front_of j w old new script at.2)
 
-  module _ (front : Told old.left new.left (λ script after. Told old.held new.held (GainsFront (output_of j w (commands most_script script))))) where
-    nothing_said : Told old.left new.left (λ script after. Told old.held new.held (λ bytes more. Told old.said new.said (GainsFront (end_line (ending_of j w (commands most_script script))))))
-    nothing_said = told_with old.left new.left _ (λ script after. Told old.held new.held (λ bytes more. Told old.said new.said (GainsFront (end_line (ending_of j w (commands most_script script)))))) front (λ script after a b inner.
-        told_with old.held new.held (GainsFront (output_of j w (commands most_script script))) (λ bytes more. Told old.said new.said (GainsFront (end_line (ending_of j w (commands most_script script))))) inner (λ x y c d at.
+  module _ (front : Told old.left new.left (λ script after. WritesFront j w most_script script old.held new.held)) where
+    nothing_said : Told old.left new.left (λ script after. Told old.said new.said (GainsFront (end_line (ending_of j w (commands most_script script)))))
+    nothing_said = told_with old.left new.left _ (λ script after. Told old.said new.said (GainsFront (end_line (ending_of j w (commands most_script script))))) front (λ script after a b inner.
         subst (λ (o : Option (List ℕ)). Told old.said o (GainsFront (end_line (ending_of j w (commands most_script script))))) (sym quiet)
-        (told_same old.said (GainsFront (end_line (ending_of j w (commands most_script script)))) (λ z. ([], (end_line (ending_of j w (commands most_script script)), refl), sym (append-nil z))))))
+        (told_same old.said (GainsFront (end_line (ending_of j w (commands most_script script)))) (λ z. ([], (end_line (ending_of j w (commands most_script script)), refl), sym (append-nil z)))))
 
     pub write_answered : Rose old.out_faults new.out_faults → Answered j w old new 5
     write_answered rose = record {
@@ -80,7 +81,7 @@ module _ {V : Type 0} (j : Meaning V) (w : WindowState) (old new : Seen) (quiet 
       known = inr (inr (inr (inr refl)));
     }
 
-  pub done_answered : Told old.left new.left (λ script after. Told old.held new.held (Whole j w most_script script after)) → Answered j w old new 0
+  pub done_answered : Told old.left new.left (λ script after. Whole j w most_script script after old.held new.held) → Answered j w old new 0
   done_answered served = record {
     done = λ e. (served, quiet);
     fault = λ e. cc;
@@ -91,7 +92,7 @@ module _ {V : Type 0} (j : Meaning V) (w : WindowState) (old new : Seen) (quiet 
     known = inl refl;
   }
 
-  pub read_answered : Rose old.source_faults new.source_faults → Told old.left new.left (λ script after. Told old.held new.held (OfTaken j w most_script script after)) → Answered j w old new 4
+  pub read_answered : Rose old.source_faults new.source_faults → Told old.left new.left (λ script after. OfTaken j w most_script script after old.held new.held) → Answered j w old new 4
   read_answered rose served = record {
     done = λ e. cc;
     fault = λ e. cc;
@@ -104,7 +105,7 @@ module _ {V : Type 0} (j : Meaning V) (w : WindowState) (old new : Seen) (quiet 
 
 -- want of memory before anything was touched
 untouched_answered : {V : Type 0} (j : Meaning V) (w : WindowState) (old : Seen) → Answered j w old old 6
-untouched_answered j w old = memory_answered j w old old refl (told_same old.left (λ script after. Told old.held old.held (GainsFront (output_of j w (commands most_script script)))) (λ script.
+untouched_answered j w old = memory_answered j w old old refl (told_same old.left (λ script after. WritesFront j w most_script script old.held old.held) (λ script.
     told_same old.held (GainsFront (output_of j w (commands most_script script))) (λ z. ([], (output_of j w (commands most_script script), refl), sym (append-nil z)))))
 
 -- nothing was gained of a line

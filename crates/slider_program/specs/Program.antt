@@ -5,8 +5,8 @@ use Rattle.definitions.specs.Outside.{Rose, Told, GainsFront}
 use Rattle.record_text.specs.declared.script_fault.Why.{Why}
 use Rattle.record_text.specs.Script.{commands}
 use Rattle.window_manager.specs.Windows.{WindowState, empty_window}
-use Rattle.slider_session.specs.Output.{Meaning, output_of, ending_of}
-use Rattle.slider_session.specs.Serving.{Whole, AtFault, OfTaken}
+use Rattle.slider_session.specs.Output.{Meaning, ending_of}
+use Rattle.slider_session.specs.Serving.{Whole, AtFault, OfTaken, WritesFront}
 use Rattle.program_words.specs.declared.plan.JobName.{JobName}
 use Rattle.program_words.specs.declared.plan.JobName.TheVariants.{Count, Index, Latest, TopK}
 use Rattle.program_words.specs.declared.plan.Plan.{Plan}
@@ -62,16 +62,16 @@ module _ {V : Type 0} (j : Meaning V) (w : WindowState) where
   -- from the window on, and of `err`
   pub record Answered (old new : Seen) (status : ℕ) : Type 0 where
     -- the source was read to its end, and all was written
-    pub done : status ≡ 0 → Told old.left new.left (λ script after. Told old.held new.held (Whole j w most_script script after)) × (new.said ≡ old.said)
+    pub done : status ≡ 0 → Told old.left new.left (λ script after. Whole j w most_script script after old.held new.held) × (new.said ≡ old.said)
     -- the script has a fault, and all before it was written
-    pub fault : status ≡ 3 → (line : ℕ) × (why : Why) × Told old.left new.left (λ script after. Told old.held new.held (AtFault j w most_script line why script after)) × Tries (fault_line line why) old.said new.said old.err_faults new.err_faults
+    pub fault : status ≡ 3 → (line : ℕ) × (why : Why) × Told old.left new.left (λ script after. AtFault j w most_script line why script old.held new.held) × Tries (fault_line line why) old.said new.said old.err_faults new.err_faults
     -- a read failed, and the output of the bytes taken up to their last LF was written
-    pub read : status ≡ 4 → Rose old.source_faults new.source_faults × Told old.left new.left (λ script after. Told old.held new.held (OfTaken j w most_script script after)) × (new.said ≡ old.said)
+    pub read : status ≡ 4 → Rose old.source_faults new.source_faults × Told old.left new.left (λ script after. OfTaken j w most_script script after old.held new.held) × (new.said ≡ old.said)
     -- a write failed
     pub write : status ≡ 5 → Rose old.out_faults new.out_faults × (new.said ≡ old.said)
     -- whatever the status, a front of the output was written, and of the script's line on `err`
-    pub front : Told old.left new.left (λ script after. Told old.held new.held (GainsFront (output_of j w (commands most_script script))))
-    pub said : Told old.left new.left (λ script after. Told old.held new.held (λ bytes more. Told old.said new.said (GainsFront (end_line (ending_of j w (commands most_script script))))))
+    pub front : Told old.left new.left (λ script after. WritesFront j w most_script script old.held new.held)
+    pub said : Told old.left new.left (λ script after. Told old.said new.said (GainsFront (end_line (ending_of j w (commands most_script script)))))
     -- there is no other status; 6 is want of memory
     pub known : (status ≡ 0) ⊎ (status ≡ 3) ⊎ (status ≡ 4) ⊎ (status ≡ 5) ⊎ (status ≡ 6)
 

@@ -3,9 +3,9 @@ ghost use Rattle.std.specs.Prelude.{◌≤◌};
 
 use crate::basic_jobs::BasicJobs;
 use crate::new_meters;
+use crate::plain_tests::serve_plainly;
 use crate::words::line_of_fault;
 use job_laws::{CountMeter, Job, JobSet};
-use plain_program::plain_outcome;
 use record_text::Kind;
 use slider_io::{SureSink, SureSource};
 use slider_session::{Halt, Settings, serve};
@@ -54,27 +54,6 @@ fn served_by_session<J: Job<Meter = CountMeter>>(
     Ok(Served { out, fault })
 }
 
-/// What the plain program writes for a script, and the line of its fault.
-fn served_plainly<J: Job<Meter = CountMeter>>(
-    alloc: Global,
-    job: J,
-    kind: Kind,
-    places: u32,
-    script: &[u8],
-) -> Result<Served, AllocError> {
-    let mut meter = CountMeter::new();
-    let script = Vec::from_slice(alloc, script)?;
-    let plain = plain_outcome(alloc, &job, kind, places, script, &mut meter)?;
-    let fault = match plain.fault {
-        None => String::new(alloc),
-        Some(fault) => line_of_fault(alloc, fault)?,
-    };
-    Ok(Served {
-        out: plain.written,
-        fault,
-    })
-}
-
 /// The commands that scripts are made of: of all kinds, and so some that a window lacks.
 const COMMANDS: [&[u8]; 16] = [
     b"run\n",
@@ -113,8 +92,8 @@ fn script_from(alloc: Global, seed: u64, from: u64, to: u64) -> Result<Vec<u8>, 
 /// Whether a script is served as by the plain program.
 fn serves_alike(alloc: Global, kind: Kind, script: &[u8]) -> Result<bool, AllocError> {
     let real = served_by_session(alloc, BasicJobs.count(), kind, 3, script)?;
-    let plain = served_plainly(alloc, BasicJobs.count(), kind, 3, script)?;
-    Ok(real.out == plain.out && real.fault == plain.fault)
+    let plain = serve_plainly(alloc, BasicJobs.count(), kind, 3, script)?;
+    Ok(real.out == plain.out && real.fault.as_bytes() == plain.err.as_slice())
 }
 
 #[test]

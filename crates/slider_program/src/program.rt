@@ -1,5 +1,5 @@
 // The top call.
-ghost use Rattle.std.specs.Prelude.{◌≡◌, ◌⊎◌, ◌+◌, ℕ, List, length, map, string_bytes, Ok, Err};
+ghost use Rattle.std.specs.Prelude.{◌≡◌, ◌⊎◌, ◌+◌, ℕ, List, length, map, string_bytes, IsSome, Ok, Err};
 ghost use Rattle.definitions.specs.Outside.{Told, GainsFront};
 ghost use Rattle.window_manager.specs.Windows.{empty_window};
 ghost use Rattle.slider_session.specs.Output.{meaning};
@@ -126,6 +126,7 @@ fn run_job<J: Job, S: Source, K: Sink, E: Sink>(
     ensures answered { AnsweredBy (meaning (J.accepts (J.setting job)) (J.emits (J.setting job)) (J.joined (J.setting job)) (J.text (J.setting job))) (first_window plan) (generated_by plan)
         record { left = S.left source.old; held = K.held out.old; said = E.held err.old; source_faults = S.faults source.old; out_faults = K.faults out.old; err_faults = E.faults err.old }
         record { left = S.left source.new; held = K.held out.new; said = E.held err.new; source_faults = S.faults source.new; out_faults = K.faults out.new; err_faults = E.faults err.new } result }
+    ensures untouched { IsSome plan.seed → (source.new ≡ source.old) × (err.new ≡ err.old) }
     ensures meters { FitsMeters meters.new.lanes.items meters.new.parts.items }
 {
     let kind = plan.tree.kind();
@@ -157,6 +158,7 @@ fn run_plan<S: Source, K: Sink, E: Sink, B: JobSet>(
         (λ k. meaning (B.TopK.accepts k) (B.TopK.emits k) (B.TopK.joined k) (B.TopK.text k)) plan.k plan.job
         record { left = S.left source.old; held = K.held out.old; said = E.held err.old; source_faults = S.faults source.old; out_faults = K.faults out.old; err_faults = E.faults err.old }
         record { left = S.left source.new; held = K.held out.new; said = E.held err.new; source_faults = S.faults source.new; out_faults = K.faults out.new; err_faults = E.faults err.new } result }
+    ensures untouched { IsSome plan.seed → (source.new ≡ source.old) × (err.new ≡ err.old) }
     ensures meters { FitsMeters meters.new.lanes.items meters.new.parts.items }
 {
     match plan.job {
@@ -195,6 +197,7 @@ pub fn run_program<Q: Threads + Wait + Sync, S: Source, K: Sink, E: Sink, B: Job
         (λ k. meaning (B.TopK.accepts k) (B.TopK.emits k) (B.TopK.joined k) (B.TopK.text k)) plan.k plan.job
         record { left = S.left source.old; held = K.held out.old; said = E.held err.old; source_faults = S.faults source.old; out_faults = K.faults out.old; err_faults = E.faults err.old }
         record { left = S.left source.new; held = K.held out.new; said = E.held err.new; source_faults = S.faults source.new; out_faults = K.faults out.new; err_faults = E.faults err.new } result }
+    ensures generated { (plan : Plan) → plan_of (map string_bytes words.now) ≡ Ok plan → IsSome plan.seed → (source.new ≡ source.old) × (err.new ≡ err.old) }
     ensures meters { FitsMeters meters.new.lanes.items meters.new.parts.items }
 {
     match read_words(alloc, words) {

@@ -2,6 +2,7 @@
 
 use crate::basic_jobs::BasicJobs;
 use crate::new_meters;
+use crate::plain_tests::run_plainly;
 use crate::program::run_program;
 use slider_io::{NoGate, SureSink, SureSource};
 use std::alloc::{AllocError, Global};
@@ -9,11 +10,18 @@ use std::sync::Wait;
 use std::thread::Threads;
 
 /// What a run of the program wrote, said and answered.
-#[derive(Drop)]
+#[derive(Drop, PartialEq, Eq)]
 pub struct Ran {
     pub out: Vec<u8>,
     pub err: Vec<u8>,
     pub status: u8,
+}
+
+impl Ran {
+    /// Whether this was written, said and answered.
+    fn is(&self, out: &[u8], err: &[u8], status: u8) -> bool {
+        self.out.as_slice() == out && self.err.as_slice() == err && self.status == status
+    }
 }
 
 /// The words `--job count --tree coalescing`.
@@ -62,7 +70,7 @@ pub fn run<Q: Threads + Wait + Sync>(
     })
 }
 
-/// Whether the program, counting words, writes this, says this and answers this.
+/// Whether the program, counting words, writes this, says this and answers this, and the plain one too.
 pub fn gives<Q: Threads + Wait + Sync>(
     rt: &Q,
     alloc: Global,
@@ -72,11 +80,10 @@ pub fn gives<Q: Threads + Wait + Sync>(
     status: u8,
 ) -> Result<bool, AllocError> {
     let words = count_words(alloc)?;
-    let ran = run(rt, alloc, words.as_slice(), script)?;
-    Ok(ran.out.as_slice() == out && ran.err.as_slice() == err && ran.status == status)
+    both_give(rt, alloc, words.as_slice(), script, out, err, status)
 }
 
-/// Whether the program, called with the words of a line, writes this and says this.
+/// Whether the program, called with the words of a line, writes this and says this, and the plain one too.
 pub fn line_gives<Q: Threads + Wait + Sync>(
     rt: &Q,
     alloc: Global,
@@ -86,9 +93,23 @@ pub fn line_gives<Q: Threads + Wait + Sync>(
     err: &[u8],
 ) -> Result<bool, AllocError> {
     let words = words(alloc, line)?;
-    let ran = run(rt, alloc, words.as_slice(), script)?;
     let status = if err.is_empty() { 0 } else { 3 };
-    Ok(ran.out.as_slice() == out && ran.err.as_slice() == err && ran.status == status)
+    both_give(rt, alloc, words.as_slice(), script, out, err, status)
+}
+
+/// Whether the program writes, says and answers this with these words, and the plain one too.
+fn both_give<Q: Threads + Wait + Sync>(
+    rt: &Q,
+    alloc: Global,
+    words: &[String],
+    script: &[u8],
+    out: &[u8],
+    err: &[u8],
+    status: u8,
+) -> Result<bool, AllocError> {
+    let ran = run(rt, alloc, words, script)?;
+    let plain = run_plainly(alloc, words, script)?;
+    Ok(ran.is(out, err, status) && plain.is(out, err, status))
 }
 
 /// The bytes of `front`, then `count` times the byte `middle`, then `back`.

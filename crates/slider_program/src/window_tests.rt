@@ -1,6 +1,6 @@
 // Scripts over each kind of window, through the program.
 
-use crate::tests::{around, line_gives};
+use crate::tests::{around, line_gives, run, words};
 use std::alloc::{AllocError, Global};
 use std::sync::Wait;
 use std::thread::Threads;
@@ -280,24 +280,16 @@ fn a_window_is_full(rt: HostRuntime) -> Result<(), AllocError> {
     for _ in 0..65_537 {
         script.extend_from_slice(b"bucket 0\n")?;
     }
-    assert!(rt;
-        tree_says(
-            &rt,
-            alloc,
-            "coalescing",
-            script.as_slice(),
-            b"fault 65537 many\n"
-        )?
-    );
-    assert!(rt;
-        tree_says(
-            &rt,
-            alloc,
-            "folding",
-            script.as_slice(),
-            b"fault 65537 many\n"
-        )?
-    );
+    for line in [
+        "--job count --tree coalescing",
+        "--job count --tree folding",
+    ] {
+        let words = words(alloc, line)?;
+        let ran = run(&rt, alloc, words.as_slice(), script.as_slice())?;
+        assert_eq!(rt; ran.status, 3, "at {line}");
+        assert!(rt; ran.out.is_empty());
+        assert!(rt; ran.err.as_slice() == b"fault 65537 many\n".as_slice());
+    }
     Ok(())
 }
 
@@ -306,7 +298,9 @@ fn the_generated_script_has_one_summary(rt: HostRuntime) -> Result<(), AllocErro
     let alloc = rt.alloc();
     let out =
         b"runs 40 bytes 1741990 sha256 636aa9ee010940a82874932f0d1a243e60b196c31bb75e2cfb12f567a3f791c8\n";
-    let line = "--gen 7 --job count --tree rotating";
-    assert!(rt; line_gives(&rt, alloc, line, b"bucket 1\n", out, b"")?);
+    let words = words(alloc, "--gen 7 --job count --tree rotating")?;
+    let ran = run(&rt, alloc, words.as_slice(), b"bucket 1\n")?;
+    assert!(rt; ran.status == 0 && ran.err.is_empty());
+    assert!(rt; ran.out.as_slice() == out.as_slice());
     Ok(())
 }

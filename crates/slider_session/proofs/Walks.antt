@@ -17,7 +17,7 @@ use Rattle.record_text.proofs.ReadLaws.{uses_then}
 use Rattle.window_manager.specs.Windows.{WindowState}
 use Rattle.slider_session.specs.Output.{Meaning, Outcome, after_bytes, on_command, outcome_from, outcome_of, output_of, ending_of}
 use Rattle.slider_session.specs.Calls.{Held, state_of}
-use Rattle.slider_session.specs.Serving.{Serves, Whole, AtFault, OfTaken, HaltIs}
+use Rattle.slider_session.specs.Serving.{Serves, Writes, AtFault, WritesFront, HaltIs}
 use Rattle.slider_session.specs.declared.halt.Halt.{Halt}
 use Rattle.slider_session.specs.declared.halt.Halt.TheVariants as Halts
 use Rattle.slider_session.proofs.Stepping.{Goes, IsCut, IsRefused, ComesTo}
@@ -88,23 +88,26 @@ module _ {V : Type 0} (j : Meaning V) (w : WindowState) (most : ℕ) (fresh : Re
     Ends : Ending → List ℕ → List ℕ → Type 0
     Ends e script after = outcome_of j w (commands most script) ≡ after_bytes s.gain ([], e)
 
-    all_written : (e : Ending) (script old new : List ℕ) → outcome_of j w (commands most script) ≡ after_bytes s.gain ([], e) → new ≡ old ++ s.gain → (ending_of j w (commands most script) ≡ e) × (new ≡ old ++ output_of j w (commands most script))
-    all_written e script old new is wrote = (ap (λ (o : Outcome). o.1) is, wrote ∙ ap (λ (l : List ℕ). old ++ l) (sym (append-nil s.gain) ∙ sym (ap (λ (o : Outcome). o.0) is)))
+    all_written : (e : Ending) (script : List ℕ) → outcome_of j w (commands most script) ≡ after_bytes s.gain ([], e) → (ending_of j w (commands most script) ≡ e) × Writes j w most script before now
+    all_written e script is = (
+      ap (λ (o : Outcome). o.1) is,
+      told_with before now (λ old new. new ≡ old ++ s.gain) (λ old new. new ≡ old ++ output_of j w (commands most script)) s.written
+          (λ old new c d wrote. wrote ∙ ap (λ (l : List ℕ). old ++ l) (sym (append-nil s.gain) ∙ sym (ap (λ (o : Outcome). o.0) is))),
+    )
 
     -- the script ended
     pub at_end : (next : Reading) → Told left later (λ l m. NextTold (to_come r l) (to_come next m) next.last (Ok None)) → (used : List ℕ) × Uses r next left later used × NextTaken r next used (Ok None) → Sound next later → Serves j w most first later before now (Ok tt)
     at_end next told took sound =
         told_with first later _ _ (told_then first left later (λ script l. outcome_of j w (commands most script) ≡ after_bytes s.gain (walk j (h.runs + 1) (state_of h) (to_come r l))) (λ l m. NextTold (to_come r l) (to_come next m) next.last (Ok None)) (λ script m. outcome_of j w (commands most script) ≡ after_bytes s.gain ([], Done))
         (λ x y z p q. p ∙ ap (λ (t : Script). after_bytes s.gain (walk j (h.runs + 1) (state_of h) t)) q.0) s.walks told)
-        (λ script after a b is. told_with before now (λ old new. new ≡ old ++ s.gain) (Whole j w most script after) s.written (λ old new c d wrote.
-        let both = all_written Done script old new is wrote in (both.0, sound.empty took.2.0 after b, both.1)))
+        (λ script after a b is. let both = all_written Done script is in (both.0, sound.empty took.2.0 after b, both.1))
 
     -- the script had a fault of form
     pub at_fault : (next : Reading) (fault : ScriptFault) → (fault.why ≢ Read) → (fault.why ≢ Mem) → Told left later (λ l m. NextTold (to_come r l) (to_come next m) next.last (Err fault)) → Serves j w most first later before now (Err (Halts.Script fault))
     at_fault next fault read mem told =
         told_with first later _ _ (told_then first left later (λ script l. outcome_of j w (commands most script) ≡ after_bytes s.gain (walk j (h.runs + 1) (state_of h) (to_come r l))) (λ l m. NextTold (to_come r l) (to_come next m) next.last (Err fault)) (λ script m. outcome_of j w (commands most script) ≡ after_bytes s.gain ([], Faulty fault.line fault.why))
         (λ x y z p q. p ∙ ap (λ (t : Script). after_bytes s.gain (walk j (h.runs + 1) (state_of h) t)) (the_fault (to_come r y) q.0)) s.walks told)
-        (λ script after a b is. told_with before now (λ old new. new ≡ old ++ s.gain) (AtFault j w most fault.line fault.why script after) s.written (λ old new c d wrote. all_written (Faulty fault.line fault.why) script old new is wrote))
+        (λ script after a b is. all_written (Faulty fault.line fault.why) script is)
       where
         the_fault : (t : Script) → (fault.why ≡ Mem) ⊎ (fault.why ≡ Read) ⊎ (t ≡ ([], Faulty fault.line fault.why)) → t ≡ ([], Faulty fault.line fault.why)
         the_fault t (inl is) = absurd (mem is)
@@ -138,12 +141,13 @@ module _ {V : Type 0} (j : Meaning V) (w : WindowState) (most : ℕ) (fresh : Re
         (λ x y z p q. ((walk j (h.runs + 1) (state_of h) (to_come r y)).0, ap (λ (o : Outcome). o.0) p)) s.walks took.1.bytes.bytes in
         let whole : output_of j w (commands most (whole_lines (past ++ next.ahead))) ≡ s.gain = ap (λ (l : List ℕ). output_of j w (commands most l)) (whole_lines-used past next.ahead ends why.2) ∙ out in
         told_with first later _ _ (told_both first later (λ script after. fresh.ahead ++ script ≡ past ++ (next.ahead ++ after)) (λ script after. IsFront s.gain (output_of j w (commands most script))) all.bytes.bytes front)
-        (λ script after a b both. told_with before now (λ old new. new ≡ old ++ s.gain) (OfTaken j w most script after) s.written (λ old new c d wrote. record {
+        (λ script after a b both. record {
           bytes = past ++ next.ahead;
           taken = sym (ap (λ (l : List ℕ). l ++ script) none) ∙ both.0 ∙ sym (append_assoc past next.ahead after);
-          written = wrote ∙ ap (λ (l : List ℕ). old ++ l) (sym whole);
+          written = told_with before now (λ old new. new ≡ old ++ s.gain) (λ old new. new ≡ old ++ output_of j w (commands most (whole_lines (past ++ next.ahead)))) s.written
+              (λ old new c d wrote. wrote ∙ ap (λ (l : List ℕ). old ++ l) (sym whole));
           front = subst (λ (l : List ℕ). IsFront l (output_of j w (commands most script))) (sym whole) both.1;
-        }))
+        })
       where
         not_mem : Mem ≡ Read → ⊥
         not_mem e = cc
@@ -166,12 +170,11 @@ module _ {V : Type 0} (j : Meaning V) (w : WindowState) (most : ℕ) (fresh : Re
     -- the window refuses it
     pub at_refusal : (fault : ScriptFault) → IsRefused j h new c next.last now wrote fault → Serves j w most first later before wrote (Err (Halts.Script fault))
     at_refusal fault is_refused =
-        told_with first later _ _ reached (λ script after a b is. subst (λ (o : Option (List ℕ)). Told before o (AtFault j w most fault.line fault.why script after)) (sym is_refused.unwritten)
-        (told_with before now (λ old new. new ≡ old ++ s.gain) (AtFault j w most fault.line fault.why script after) s.written (λ old new c d wrote.
-        all_written later (Faulty fault.line fault.why) script old new (is ∙ ap (after_bytes s.gain) (is_refused.ends (λ i v. walk j i v (to_come next after)))) wrote)))
+        told_with first later _ _ reached (λ script after a b is. subst (λ (o : Option (List ℕ)). AtFault j w most fault.line fault.why script before o) (sym is_refused.unwritten)
+        (all_written later (Faulty fault.line fault.why) script (is ∙ ap (after_bytes s.gain) (is_refused.ends (λ i v. walk j i v (to_come next after))))))
 
     -- it was cut short
-    pub at_cut : IsCut j h new c next.last now wrote → Told first later (λ script after. Told before wrote (GainsFront (output_of j w (commands most script))))
+    pub at_cut : IsCut j h new c next.last now wrote → Told first later (λ script after. WritesFront j w most script before wrote)
     at_cut cut =
         told_with first later _ _ reached (λ script after a b is.
         let front = cut.front (λ i v. walk j i v (to_come next after)) in

@@ -22,29 +22,37 @@ IsOfScript (Err Halts.Write) = Unit {0}
 IsOfScript (Err Halts.Mem) = Unit {0}
 
 module _ {V : Type 0} (j : Meaning V) (w : WindowState) (most : ℕ) where
+  -- the output of a script was written behind what the sink held before
+  abbrev pub Writes : List ℕ → Option (List ℕ) → Option (List ℕ) → Type 0
+  Writes script before now = Told before now (λ old new. new ≡ old ++ output_of j w (commands most script))
+
   -- the whole script was served from the window on: nothing is left of it, and its output was written
-  abbrev pub Whole : List ℕ → List ℕ → List ℕ → List ℕ → Type 0
-  Whole script after old new = (ending_of j w (commands most script) ≡ Done) × (after ≡ []) × (new ≡ old ++ output_of j w (commands most script))
+  abbrev pub Whole : List ℕ → List ℕ → Option (List ℕ) → Option (List ℕ) → Type 0
+  Whole script after before now = (ending_of j w (commands most script) ≡ Done) × (after ≡ []) × Writes script before now
 
   -- the script ended at its first fault, and its output was written
-  abbrev pub AtFault : ℕ → Why → List ℕ → List ℕ → List ℕ → List ℕ → Type 0
-  AtFault line why script after old new = (ending_of j w (commands most script) ≡ Faulty line why) × (new ≡ old ++ output_of j w (commands most script))
+  abbrev pub AtFault : ℕ → Why → List ℕ → Option (List ℕ) → Option (List ℕ) → Type 0
+  AtFault line why script before now = (ending_of j w (commands most script) ≡ Faulty line why) × Writes script before now
 
   -- of the script some bytes were taken: the output of these up to their last LF was written, and it is a front of the
   -- script's
-  pub record OfTaken (script after old new : List ℕ) : Type 0 where
+  pub record OfTaken (script after : List ℕ) (before now : Option (List ℕ)) : Type 0 where
     pub bytes : List ℕ
     pub taken : script ≡ bytes ++ after
-    pub written : new ≡ old ++ output_of j w (commands most (whole_lines bytes))
+    pub written : Writes (whole_lines bytes) before now
     pub front : IsFront (output_of j w (commands most (whole_lines bytes))) (output_of j w (commands most script))
+
+  -- a front of the script's output was written
+  abbrev pub WritesFront : List ℕ → Option (List ℕ) → Option (List ℕ) → Type 0
+  WritesFront script before now = Told before now (GainsFront (output_of j w (commands most script)))
 
   -- serving a script, where the source had `left` and has `rest`, and the sink held `before` and holds `now`
   abbrev pub Serves : Option (List ℕ) → Option (List ℕ) → Option (List ℕ) → Option (List ℕ) → Result (Unit {0}) Halt → Type 0
-  Serves left rest before now (Ok done) = Told left rest (λ script after. Told before now (Whole script after))
-  Serves left rest before now (Err (Halts.Script fault)) = Told left rest (λ script after. Told before now (AtFault fault.line fault.why script after))
-  Serves left rest before now (Err Halts.Read) = Told left rest (λ script after. Told before now (OfTaken script after))
-  Serves left rest before now (Err Halts.Write) = Told left rest (λ script after. Told before now (GainsFront (output_of j w (commands most script))))
-  Serves left rest before now (Err Halts.Mem) = Told left rest (λ script after. Told before now (GainsFront (output_of j w (commands most script))))
+  Serves left rest before now (Ok done) = Told left rest (λ script after. Whole script after before now)
+  Serves left rest before now (Err (Halts.Script fault)) = Told left rest (λ script after. AtFault fault.line fault.why script before now)
+  Serves left rest before now (Err Halts.Read) = Told left rest (λ script after. OfTaken script after before now)
+  Serves left rest before now (Err Halts.Write) = Told left rest (λ script after. WritesFront script before now)
+  Serves left rest before now (Err Halts.Mem) = Told left rest (λ script after. WritesFront script before now)
 
 -- there are 16 meters for lanes and 16 for parts
 abbrev pub FitsMeters : {M : Type 0} → List M → List M → Type 0
