@@ -70,6 +70,31 @@ impl Write for Interrupted {
     }
 }
 
+/// A writer that takes two bytes a call, only once those before were flushed, and may have nowhere to flush to.
+#[derive(Drop)]
+struct Held {
+    waits: bool,
+    is_full: bool,
+}
+
+impl Write for Held {
+    fn write(&mut self, piece: &[u8]) -> Result<usize, Error> {
+        if self.waits {
+            return Err(Error::from(ErrorKind::BrokenPipe));
+        }
+        self.waits = true;
+        Ok(piece.len().min(2))
+    }
+
+    fn flush(&mut self) -> Result<(), Error> {
+        if self.is_full {
+            return Err(Error::from(ErrorKind::BrokenPipe));
+        }
+        self.waits = false;
+        Ok(())
+    }
+}
+
 #[test]
 fn a_source_in_memory_gives_pieces_and_fails_at_its_calls(
     rt: HostRuntime,
@@ -170,6 +195,22 @@ fn other_failures_are_not_tried_again(rt: HostRuntime) -> Result<(), AllocError>
         times: 0,
         fails: true,
         calls: 0,
+    });
+    assert_eq!(rt; sink.put(b"ab"), Err(WriteFault::Failed));
+    Ok(())
+}
+
+#[test]
+fn each_put_is_flushed(rt: HostRuntime) -> Result<(), AllocError> {
+    let mut sink = WriterSink::new(Held {
+        waits: false,
+        is_full: false,
+    });
+    assert_eq!(rt; sink.put(b"abc"), Ok(2));
+    assert_eq!(rt; sink.put(b"c"), Ok(1));
+    let mut sink = WriterSink::new(Held {
+        waits: false,
+        is_full: true,
     });
     assert_eq!(rt; sink.put(b"ab"), Err(WriteFault::Failed));
     Ok(())
