@@ -4,6 +4,7 @@ ghost use Rattle.std.specs.declared.option.Option.TheVariants.{None};
 ghost use Rattle.definitions.specs.Outside.{Rose};
 ghost use Rattle.slider_io.specs.Devices.{Takes};
 ghost use Rattle.slider_io.specs.Memory.{one_more};
+ghost use Rattle.std.specs.Io.KnownBytes.{ReadConsumes};
 
 use crate::{ReadFailed, Source};
 use std::io::{ErrorKind, Read};
@@ -12,7 +13,8 @@ use std::marker::Model;
 /// How often an interrupted call is tried.
 const TRIES: u32 = 64;
 
-/// A source over a real reader. It tells no bytes; its count rises by one at each failure.
+/// A source over a real reader. As a source it tells no bytes. It is seen as its count, which rises by one at each
+/// failure, and the bytes that its reader has left, where these are known.
 #[derive(Drop)]
 pub struct ReaderSource<R: Read + Drop> {
     inner: R,
@@ -20,17 +22,18 @@ pub struct ReaderSource<R: Read + Drop> {
 }
 
 impl<R: Read + Drop> Model for ReaderSource<R> {
-    ghost use Rattle.std.specs.Prelude.{ℕ};
+    ghost use Rattle.slider_io.specs.Adapters.{Adapter};
 
-    ghost Value = { ℕ };
+    ghost Value = { Adapter };
 
-    ghost view = { λ s. s.faults };
+    ghost view = { λ s. record { faults = s.faults; known = R.remaining s.inner } };
 }
 
 impl<R: Read + Drop> ReaderSource<R> {
     /// A source over this reader, which has not failed yet.
     pub fn new(inner: R) -> ReaderSource<R>
-        ensures { result ≡ 0 }
+        ensures faults { result.faults ≡ 0 }
+        ensures known { result.known ≡ R.remaining inner }
     {
         ReaderSource { inner, faults: 0 }
     }
@@ -39,15 +42,16 @@ impl<R: Read + Drop> ReaderSource<R> {
 impl<R: Read + Drop> Source for ReaderSource<R> {
     ghost left = { λ _. None };
 
-    ghost faults = { λ s. s };
+    ghost faults = { λ s. s.faults };
 
     fn take(&mut self, into: &mut [u8]) -> Result<usize, ReadFailed>
         ensures most { IfOk result (λ n. n ≤ length into.new) }
         ensures bytes { Takes None None (length into.old) into.new result }
-        ensures later { self.old ≤ self.new }
-        ensures failed { OnErr result (Rose self.old self.new) }
-        ensures still { OnOk result (self.new ≡ self.old) }
-        ensures count { OnErr result (self.new ≡ one_more self.old) }
+        ensures later { self.old.faults ≤ self.new.faults }
+        ensures failed { OnErr result (Rose self.old.faults self.new.faults) }
+        ensures still { OnOk result (self.new.faults ≡ self.old.faults) }
+        ensures count { OnErr result (self.new.faults ≡ one_more self.old.faults) }
+        ensures handed { ReadConsumes self.old.known self.new.known result into.new }
     {
         'tries: for _ in 0..TRIES {
             match self.inner.read(into) {

@@ -4,6 +4,7 @@ ghost use Rattle.std.specs.declared.option.Option.TheVariants.{None};
 ghost use Rattle.definitions.specs.Outside.{Rose};
 ghost use Rattle.slider_io.specs.Devices.{Puts};
 ghost use Rattle.slider_io.specs.Memory.{one_more};
+ghost use Rattle.slider_io.specs.Adapters.{HandsOn};
 ghost use Rattle.slider_io.specs.declared.sink.WriteFault.TheVariants.{Failed};
 
 use crate::{Sink, WriteFault};
@@ -13,7 +14,9 @@ use std::marker::Model;
 /// How often an interrupted call is tried.
 const TRIES: u32 = 64;
 
-/// A sink into a real writer, which it flushes in each call. It tells no bytes; its count rises by one at each failure.
+/// A sink into a real writer, which it flushes in each call. As a sink it tells no bytes, since what was written and not
+/// flushed is answered as failed. It is seen as its count, which rises by one at each failure, and the bytes that its
+/// writer holds, where these are known.
 #[derive(Drop)]
 pub struct WriterSink<W: Write + Drop> {
     inner: W,
@@ -21,17 +24,18 @@ pub struct WriterSink<W: Write + Drop> {
 }
 
 impl<W: Write + Drop> Model for WriterSink<W> {
-    ghost use Rattle.std.specs.Prelude.{ℕ};
+    ghost use Rattle.slider_io.specs.Adapters.{Adapter};
 
-    ghost Value = { ℕ };
+    ghost Value = { Adapter };
 
-    ghost view = { λ s. s.faults };
+    ghost view = { λ s. record { faults = s.faults; known = W.contents s.inner } };
 }
 
 impl<W: Write + Drop> WriterSink<W> {
     /// A sink into this writer, which has not failed yet.
     pub fn new(inner: W) -> WriterSink<W>
-        ensures { result ≡ 0 }
+        ensures faults { result.faults ≡ 0 }
+        ensures known { result.known ≡ W.contents inner }
     {
         WriterSink { inner, faults: 0 }
     }
@@ -55,16 +59,17 @@ fn flush<W: Write>(inner: &mut W) -> bool {
 impl<W: Write + Drop> Sink for WriterSink<W> {
     ghost held = { λ _. None };
 
-    ghost faults = { λ s. s };
+    ghost faults = { λ s. s.faults };
 
     fn put(&mut self, piece: &[u8]) -> Result<usize, WriteFault>
         ensures most { IfOk result (λ n. n ≤ length piece.now) }
         ensures bytes { Puts None None piece.now result }
-        ensures none { IfOk result (λ n. n ≡ 0 → 0 < length piece.now → Rose self.old self.new) }
-        ensures later { self.old ≤ self.new }
-        ensures failed { IsErrOf result WriteFault.Failed → Rose self.old self.new }
-        ensures still { OnOk result (self.new ≡ self.old) }
-        ensures count { OnErr result (self.new ≡ one_more self.old) }
+        ensures none { IfOk result (λ n. n ≡ 0 → 0 < length piece.now → Rose self.old.faults self.new.faults) }
+        ensures later { self.old.faults ≤ self.new.faults }
+        ensures failed { IsErrOf result WriteFault.Failed → Rose self.old.faults self.new.faults }
+        ensures still { OnOk result (self.new.faults ≡ self.old.faults) }
+        ensures count { OnErr result (self.new.faults ≡ one_more self.old.faults) }
+        ensures handed { HandsOn self.old.known self.new.known result piece.now }
         ensures only { IfErr result (λ why. why ≡ Failed) }
     {
         'tries: for _ in 0..TRIES {
