@@ -7,7 +7,7 @@ use crate::{Board, Hand, Worker, work_all};
 use slider_io::{Gate, NoGate};
 use std::process::Abort;
 use std::sync::Wait;
-use std::sync::atomic::{AtomicBool, Ordering};
+use std::sync::atomic::{AtomicBool, AtomicU64, Ordering};
 use std::test::Fail;
 use std::thread;
 use std::thread::Threads;
@@ -40,15 +40,17 @@ fn each_task_is_worked_in_its_place(rt: HostRuntime) -> Result<(), Fail> {
     Ok(())
 }
 
-/// Holds task 0 back until task 1 has passed, for so many turns at most.
+/// Holds task 0 back until task 1 has passed, for so many turns at most, and counts who comes.
 #[derive(Drop)]
 struct Waits {
+    comers: AtomicU64,
     passed: AtomicBool,
     ran_out: AtomicBool,
 }
 
 impl Gate for Waits {
     fn pass(&self, task: u64) {
+        self.comers.fetch_add(1, Ordering::SeqCst);
         if task == 1 {
             self.passed.store(true, Ordering::SeqCst);
         }
@@ -67,6 +69,7 @@ impl Gate for Waits {
 #[test]
 fn two_tasks_are_under_way_together(rt: HostRuntime) -> Result<(), Fail> {
     let gate = Waits {
+        comers: AtomicU64::new(0),
         passed: AtomicBool::new(false),
         ran_out: AtomicBool::new(false),
     };
@@ -74,6 +77,7 @@ fn two_tasks_are_under_way_together(rt: HostRuntime) -> Result<(), Fail> {
     let done = work_all(&rt, rt.alloc(), tasks, 2, &gate, &Adds).is_ok();
     assert!(rt; done);
     assert!(rt; !gate.ran_out.load(Ordering::SeqCst));
+    assert_eq!(rt; gate.comers.load(Ordering::SeqCst), 3);
     Ok(())
 }
 
