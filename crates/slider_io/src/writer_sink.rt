@@ -2,6 +2,7 @@
 ghost use Rattle.std.specs.Prelude.{◌≡◌, ◌<◌, ◌≤◌, ℕ, List, length, IfOk, OnOk, OnErr, IfErr, IsErrOf};
 ghost use Rattle.std.specs.declared.option.Option.TheVariants.{None};
 ghost use Rattle.definitions.specs.Outside.{Rose};
+ghost use Rattle.std.specs.Io.KnownBytes.{Keeps};
 ghost use Rattle.slider_io.specs.Devices.{Puts};
 ghost use Rattle.slider_io.specs.Memory.{one_more};
 ghost use Rattle.slider_io.specs.Adapters.{HandsOn};
@@ -42,7 +43,9 @@ impl<W: Write + Drop> WriterSink<W> {
 }
 
 /// Flushes a writer, and answers whether it did; an interrupted flush is tried again.
-fn flush<W: Write>(inner: &mut W) -> bool {
+fn flush<W: Write>(inner: &mut W) -> bool
+    ensures { Keeps (W.contents inner.old) (W.contents inner.new) }
+{
     'tries: for _ in 0..TRIES {
         match inner.flush() {
             Ok(()) => return true,
