@@ -5,7 +5,7 @@ ghost use Rattle.record_text.specs.Script.{Ending, Done, Faulty, commands};
 ghost use Rattle.window_manager.specs.Windows.{empty_window};
 ghost use Rattle.slider_session.specs.Output.{ended_by, meaning, outcome_of};
 ghost use Rattle.slider_session.specs.Accepted.{HoldsAccepted};
-ghost use Rattle.slider_session.specs.declared.serving.TheConstants.{MOST_SCRIPT};
+ghost use Rattle.slider_session.specs.Serving.{most_script};
 ghost use Rattle.plain_program.specs.Plain.{ending_of_rest};
 ghost use Rattle.plain_program.specs.Walk.{Walks, walked_from};
 
@@ -36,7 +36,7 @@ pub fn plain_outcome<J: Job>(
     script: Vec<u8>,
     m: &mut J::Meter,
 ) -> Result<PlainOutcome, AllocError>
-    ensures { IfOk result (λ o. (o.written.items, ending_of_rest o.fault Done) ≡ outcome_of (meaning (J.accepts (J.setting job.now)) (J.emits (J.setting job.now)) (J.joined (J.setting job.now)) (J.text (J.setting job.now))) (empty_window kind places) (commands MOST_SCRIPT script.items)) }
+    ensures { IfOk result (λ o. (o.written.items, ending_of_rest o.fault Done) ≡ outcome_of (meaning (J.accepts (J.setting job.now)) (J.emits (J.setting job.now)) (J.joined (J.setting job.now)) (J.text (J.setting job.now))) (empty_window kind places) (commands most_script script.items)) }
 {
     let script = plain_commands(alloc, script, MOST_SCRIPT)?;
     let mut walk = PlainWalk::new(alloc, kind, places);

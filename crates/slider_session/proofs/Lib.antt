@@ -3,3 +3,4 @@ pub mod Tables
 pub mod PartRoots
 pub mod Stepping
 pub mod Walks
+pub mod MeterLaws

@@ -1,6 +1,8 @@
 -- The sheets of all parts, merged with those of a leaf, are the sheets of the merge.
-use Rattle.std.proofs.Common.{◌≡◌, ◌<◌, ℕ, zero, suc, List, [], ◌∷◌, ◌++◌, length, All, sym, ap, ◌∙◌, arith}
+use Rattle.std.proofs.Common.{◌≡◌, ◌<◌, ◌+◌, ℕ, zero, suc, List, [], ◌∷◌, ◌++◌, length, All, sym, ap, ◌∙◌, arith}
 use Rattle.std.specs.Prelude.{slice_index_or}
+use Rattle.std.proofs.lemmas.List.{get_or_read}
+use Rattle.std.proofs.lemmas.Grind.{common_steps}
 use Rattle.definitions.specs.Tables.{merged}
 use Rattle.sheets.specs.Sheets.{SheetOf}
 use Rattle.sheets.specs.Parts.{AreSheets, PartsMerge}
@@ -27,6 +29,14 @@ module _ {V : Type 0} (join : V → V → V) (setting : ℕ) where
   none_merged roots mapped more none = record {
     count = ap (λ (l : List (SheetOf V)). length l) none;
     each = λ i d h. let zero = ap (λ (l : List (SheetOf V)). length l) none in absurd (omega (arith, h, zero));
+  }
+
+  -- one part more is merged
+  pub one_merged : (n : ℕ) (roots mapped more after : List (SheetOf V)) (a b sheet : SheetOf V) → Merges n roots mapped more → after ≡ more ++ sheet ∷ [] → n < length roots → n < length mapped
+      → a ≡ slice_index_or roots n a → b ≡ slice_index_or mapped n b → sheet ≡ merged_sheet a b → Merges (n + 1) roots mapped after
+  one_merged n roots mapped more after a b sheet before is left right at_a at_b made = record {
+    count = let c = before.count in grind (arith, common_steps);
+    each = λ i d h. let c = before.count in let e = before.each i d in let x = get_or_read roots n a left at_a d in let y = get_or_read mapped n b right at_b d in grind (arith, common_steps);
   }
 
   -- the merges of all parts are the parts of the merge

@@ -3,3 +3,4 @@ pub mod Settings
 pub mod Accepted
 pub mod Calls
 pub mod Serving
+pub mod Meters

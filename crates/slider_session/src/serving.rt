@@ -4,7 +4,8 @@ ghost use Rattle.definitions.specs.Outside.{Rose};
 ghost use Rattle.window_manager.specs.Windows.{empty_window};
 ghost use Rattle.slider_session.specs.Output.{meaning};
 ghost use Rattle.slider_session.specs.Settings.{AreWithin};
-ghost use Rattle.slider_session.specs.Serving.{Serves, IsOfScript, FitsMeters, HaltIs};
+ghost use Rattle.slider_session.specs.Serving.{most_script, Serves, IsOfScript, FitsMeters, HaltIs};
+ghost use Rattle.slider_session.specs.Meters.{MetersRose};
 
 use crate::{Halt, Session, Settings};
 use job_laws::{Job, MeterRow};
@@ -40,13 +41,14 @@ pub fn serve<J: Job, S: Source, K: Sink>(
 ) -> Result<(), Halt>
     requires settings { AreWithin settings }
     requires meters { FitsMeters meters.old.lanes.items meters.old.parts.items }
-    ensures serves { Serves (meaning (J.accepts (J.setting job)) (J.emits (J.setting job)) (J.joined (J.setting job)) (J.text (J.setting job))) (empty_window kind settings.places) MOST_SCRIPT (S.left source.old) (S.left source.new) (K.held out.old) (K.held out.new) result }
+    ensures serves { Serves (meaning (J.accepts (J.setting job)) (J.emits (J.setting job)) (J.joined (J.setting job)) (J.text (J.setting job))) (empty_window kind settings.places) most_script (S.left source.old) (S.left source.new) (K.held out.old) (K.held out.new) result }
     ensures script { IsOfScript result }
     ensures source_later { S.faults source.old ≤ S.faults source.new }
     ensures later { K.faults out.old ≤ K.faults out.new }
     ensures read { IsErrOf result Halt.Read → Rose (S.faults source.old) (S.faults source.new) }
     ensures write { IsErrOf result Halt.Write → Rose (K.faults out.old) (K.faults out.new) }
     ensures meters { FitsMeters meters.new.lanes.items meters.new.parts.items }
+    ensures counted { MetersRose J.Meter.maps J.Meter.merges J.Meter.joins meters.old.lanes.items meters.old.parts.items meters.new.lanes.items meters.new.parts.items }
 {
     let mut session = match Session::new(alloc, job, settings, kind) {
         Ok(session) => session,

@@ -7,6 +7,7 @@ ghost use Rattle.slider_session.specs.Output.{meaning};
 ghost use Rattle.slider_session.specs.Settings.{AreWithin};
 ghost use Rattle.slider_session.specs.Calls.{Held, accepted_of, Changes, Answers, Steps};
 ghost use Rattle.slider_session.specs.Serving.{IsOfScript, FitsMeters, RefusalIs};
+ghost use Rattle.slider_session.specs.Meters.{MetersRose};
 
 use crate::answering::piece_of;
 use crate::{Halt, Settings};
@@ -80,6 +81,7 @@ impl<J: Job> Session<J> {
         ensures later { K.faults out.old ≤ K.faults out.new }
         ensures failed { IsErrOf result Halt.Write → Rose (K.faults out.old) (K.faults out.new) }
         ensures meters { FitsMeters meters.new.lanes.items meters.new.parts.items }
+        ensures counted { MetersRose J.Meter.maps J.Meter.merges J.Meter.joins meters.old.lanes.items meters.old.parts.items meters.new.lanes.items meters.new.parts.items }
     {
         match c {
             Command::Run => self.answer(alloc, out, meters),
@@ -114,6 +116,7 @@ impl<J: Job> Session<J> {
         ensures later { K.faults out.old ≤ K.faults out.new }
         ensures failed { IsErrOf result Halt.Write → Rose (K.faults out.old) (K.faults out.new) }
         ensures meters { FitsMeters meters.new.lanes.items meters.new.parts.items }
+        ensures counted { MetersRose J.Meter.maps J.Meter.merges J.Meter.joins meters.old.lanes.items meters.old.parts.items meters.new.lanes.items meters.new.parts.items }
     {
         let run = self.runs + 1;
         let bytes = match piece_of(

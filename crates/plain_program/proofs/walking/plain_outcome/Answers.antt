@@ -2,7 +2,7 @@ use Rattle.std.proofs.Common.{◌≡◌, ap, ◌∙◌}
 use Rattle.record_text.specs.Script.{Done, Ending, commands}
 use Rattle.window_manager.specs.Windows.{empty_window}
 use Rattle.slider_session.specs.Output.{meaning}
-use Rattle.slider_session.specs.declared.serving.TheConstants.{MOST_SCRIPT}
+use Rattle.slider_session.specs.Serving.{most_script}
 use Rattle.plain_program.specs.Plain.{ending_of_rest}
 use Rattle.plain_program.proofs.ScriptSteps.{first_fault, whole_walk}
 use Rattle.plain_program.proofs.walking.plain_outcome.Goals as goal
@@ -16,5 +16,5 @@ returns g c =
     let ending = ap (λ f. ending_of_rest f Done) c.or.ensures ∙ first_fault c.in_ok-refused.refused fault Done in
     ap (λ (e : Ending). (c.walk_commands.new.walk.written.items, e)) ending
     ∙ c.in_ok-refused.ensures rest
-    ∙ whole_walk j (empty_window c.args.kind c.args.places) c.new-walk.result c.deref.result.now rest (commands MOST_SCRIPT c.args.script.items) c.new-walk.ensures.run c.new-walk.ensures.window c.new-walk.ensures.written
+    ∙ whole_walk j (empty_window c.args.kind c.args.places) c.new-walk.result c.deref.result.now rest (commands most_script c.args.script.items) c.new-walk.ensures.run c.new-walk.ensures.window c.new-walk.ensures.written
     ((λ i. (c.deref.ensures.value i, rest)) ∙ c.in_ok-script.ensures.commands)

@@ -4,6 +4,7 @@ use Rattle.definitions.specs.Answer.{pairs_of}
 use Rattle.marker_chunker.specs.Cuts.{joined}
 use Rattle.sheets.specs.Parts.{AreSheets}
 use Rattle.slider_session.specs.Output.{meaning}
+use Rattle.slider_session.proofs.MeterLaws.{then_counted}
 use Rattle.slider_session.proofs.Tables.{leaf_more}
 use Rattle.slider_session.proofs.answering.roots_of_leaves.Goals as goal
 
@@ -18,6 +19,7 @@ leaves-preserved g c =
     let before = table_of j.joined (pairs_of j.emits (joined (take c.leaves.i c.args.window.now.window.leaves))) in
     record {
       meters = c.with_leaf.ensures.meters;
+      counted = then_counted g.J.Meter.Meter.maps g.J.Meter.Meter.merges g.J.Meter.Meter.joins c.args.meters.now.lanes.items c.args.meters.now.parts.items c.leaves.meters.lanes.items c.leaves.meters.parts.items c.with_leaf.new.meters.lanes.items c.with_leaf.new.meters.parts.items c.leaves.invariant.counted c.with_leaf.ensures.counted;
       roots = subst (λ (t : List (List ℕ × g.row.J-Val.Denot)). AreSheets s c.args.parts t c.in-Ok.more.items)
           ((λ i. merged j.joined before (table_of j.joined (pairs_of j.emits (leaf i))))
           ∙ leaf_more j (g.J.Job.good s) (laws.join_laws s) (laws.emits_good s) c.args.window.now.window.leaves c.leaves.i [] (omega (arith, test, count)) c.requires.accepted.leaves)

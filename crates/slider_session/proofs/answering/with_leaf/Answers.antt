@@ -1,9 +1,28 @@
-use Rattle.std.proofs.Common.{◌≡◌, ℕ, subst, arith}
+use Rattle.std.proofs.Common.{◌≡◌, ℕ, subst, arith, rules}
 use Rattle.definitions.specs.Tables.{table_of}
 use Rattle.definitions.specs.Answer.{pairs_of}
 use Rattle.sheets.proofs.PartUnion.{merged-in_part}
-use Rattle.slider_session.proofs.PartRoots.{Merges, all_merged}
+use Rattle.slider_session.proofs.MeterLaws.{part_counted}
+use Rattle.slider_session.proofs.PartRoots.{Merges, all_merged, one_merged}
 use Rattle.slider_session.proofs.answering.with_leaf.Goals as goal
+
+pub parts-preserved : goal.parts-preserved
+parts-preserved g c =
+    let m = c.in-Ok.ensures in
+    let merges = m.merges in
+    let joins = m.joins.0 in
+    let size = c.parts.invariant.meters.1 in
+    let test = c.parts-test.true in
+    let count = c.requires.count in
+    let parts = c.requires.parts.1 in
+    record {
+      meters = search rules;
+      counted = part_counted g.J.Meter.Meter.maps g.J.Meter.Meter.merges g.J.Meter.Meter.joins c.args.meters.now.lanes.items c.args.meters.now.parts.items c.parts.meters.lanes.items c.parts.meters.parts.items c.parts.i c.index_mut-in-parts.result.now c.merge_sheets.new.m
+          c.parts.invariant.counted (omega (arith, size, test, count, parts)) c.index_mut-in-parts.ensures.value (m.maps, omega (arith, merges), omega (arith, joins));
+      merges = one_merged (g.J.Job.joined (g.J.Job.setting c.args.job.now)) (g.J.Job.setting c.args.job.now) c.parts.i c.args.roots.now c.in_ok-mapped.mapped.items c.parts.both.items c.push.new.self.items c.index-roots-i.result c.index.result.now c.in-Ok.sheet
+          c.parts.invariant.merges c.in_ok-push-in-Ok.ensures.items (omega (arith, test)) (let all = c.in_ok-mapped.ensures.ok.count in omega (arith, all, test, count)) c.index-roots-i.is c.index.ensures
+          (λ i. record { setting = m.setting i; entries = m.entries i });
+    }
 
 pub returns-clause-roots : goal.returns-clause-roots
 returns-clause-roots g c = λ t left.

@@ -5,8 +5,8 @@ use Rattle.record_text.proofs.ReadLaws.{uses_none}
 use Rattle.window_manager.specs.Windows.{empty_window}
 use Rattle.slider_session.specs.Output.{meaning}
 use Rattle.slider_session.specs.Calls.{Held, state_of, accepted_of, Steps}
-use Rattle.slider_session.specs.Serving.{Serves}
-use Rattle.slider_session.specs.declared.serving.TheConstants.{MOST_SCRIPT}
+use Rattle.slider_session.specs.Serving.{most_script, Serves}
+use Rattle.slider_session.proofs.MeterLaws.{none_counted, then_counted}
 use Rattle.slider_session.proofs.Stepping.{step_comes}
 use Rattle.slider_session.proofs.Walks.{begins, nothing_yet, goes_on, at_end, at_stop, at_halt}
 use Rattle.slider_session.proofs.serving.serve.Goals as goal
@@ -27,9 +27,10 @@ commands-init g c =
       runs = omega (arith, zero);
       accepted = let none = ap accepted_of c.in-Ok.ensures in omega (arith, none);
       meters = c.requires.meters;
+      counted = none_counted g.J.Meter.Meter.maps g.J.Meter.Meter.merges g.J.Meter.Meter.joins c.args.meters.now.lanes.items c.args.meters.now.parts.items;
       source_later = omega arith;
       later = omega arith;
-      stands = begins j w MOST_SCRIPT (reading_of c.new-reader.result) c.in-Ok.session left (g.K.Sink.held c.args.out.now) zero
+      stands = begins j w most_script (reading_of c.new-reader.result) c.in-Ok.session left (g.K.Sink.held c.args.out.now) zero
           (ap state_of c.in-Ok.ensures)
           n.line n.commands (uses_none (reading_of c.new-reader.result) left);
     }
@@ -55,9 +56,10 @@ commands-preserved g c =
       runs = let more = comes.runs in let before = inv.runs in omega (arith, more, before, moved);
       accepted = let more = comes.accepted in let before = inv.accepted in omega (arith, more, before, moved);
       meters = c.in-Ok-step.ensures.meters;
+      counted = then_counted g.J.Meter.Meter.maps g.J.Meter.Meter.merges g.J.Meter.Meter.joins c.args.meters.now.lanes.items c.args.meters.now.parts.items c.commands.meters.lanes.items c.commands.meters.parts.items c.step.new.meters.lanes.items c.step.new.meters.parts.items inv.counted c.in-Ok-step.ensures.counted;
       source_later = let before = inv.source_later in let now = e.later in omega (arith, before, now);
       later = let before = inv.later in let now = c.in-Ok-step.ensures.later in omega (arith, before, now);
-      stands = goes_on j w MOST_SCRIPT (reading_of c.new-reader.result) c.commands.session (reading_of c.commands.reader) (g.S.Source.left (source_of c.new-reader.result).now) (g.S.Source.left (source_of c.commands.reader).now) (g.K.Sink.held c.args.out.now) (g.K.Sink.held c.commands.out) inv.stands
+      stands = goes_on j w most_script (reading_of c.new-reader.result) c.commands.session (reading_of c.commands.reader) (g.S.Source.left (source_of c.new-reader.result).now) (g.S.Source.left (source_of c.commands.reader).now) (g.K.Sink.held c.args.out.now) (g.K.Sink.held c.commands.out) inv.stands
           c.step.new.self (reading_of c.next.new.self) c.in-Ok-Some.command (g.S.Source.left (source_of c.next.new.self).now) (g.K.Sink.held c.step.new.out) told (taken inv.clear) comes;
     }
 
@@ -72,11 +74,11 @@ returns-in-Ok-None-clause-serves g c =
     let rest = g.S.Source.left (source_of c.next.new.self).now in
     let before = g.K.Sink.held c.args.out.now in
     let now = g.K.Sink.held c.commands.out in
-    let ended : Serves j w MOST_SCRIPT first rest before now (Ok tt) =
-    at_end j w MOST_SCRIPT (reading_of c.new-reader.result) c.commands.session (reading_of c.commands.reader) first (g.S.Source.left (source_of c.commands.reader).now) before now inv.stands rest (reading_of c.next.new.self)
+    let ended : Serves j w most_script first rest before now (Ok tt) =
+    at_end j w most_script (reading_of c.new-reader.result) c.commands.session (reading_of c.commands.reader) first (g.S.Source.left (source_of c.commands.reader).now) before now inv.stands rest (reading_of c.next.new.self)
     (rw c.in-Ok-None.field-0-is at e.told) ((rw c.in-Ok-None.field-0-is at e.taken) inv.clear) e.sound in
-    let at_job = subst (λ (k : ℕ). Serves (meaning (g.J.Job.accepts k) (g.J.Job.emits k) (g.J.Job.joined k) (g.J.Job.text k)) w MOST_SCRIPT first rest before now (Ok tt)) (ap (λ (h : Held). h.setting) c.in-Ok.ensures) ended in
-    let served = subst (λ (o : Option (List ℕ)). Serves (meaning (g.J.Job.accepts (g.J.Job.setting c.args.job)) (g.J.Job.emits (g.J.Job.setting c.args.job)) (g.J.Job.joined (g.J.Job.setting c.args.job)) (g.J.Job.text (g.J.Job.setting c.args.job))) w MOST_SCRIPT o rest before now (Ok tt)) (ap g.S.Source.left c.new-reader.ensures.now) at_job in
+    let at_job = subst (λ (k : ℕ). Serves (meaning (g.J.Job.accepts k) (g.J.Job.emits k) (g.J.Job.joined k) (g.J.Job.text k)) w most_script first rest before now (Ok tt)) (ap (λ (h : Held). h.setting) c.in-Ok.ensures) ended in
+    let served = subst (λ (o : Option (List ℕ)). Serves (meaning (g.J.Job.accepts (g.J.Job.setting c.args.job)) (g.J.Job.emits (g.J.Job.setting c.args.job)) (g.J.Job.joined (g.J.Job.setting c.args.job)) (g.J.Job.text (g.J.Job.setting c.args.job))) w most_script o rest before now (Ok tt)) (ap g.S.Source.left c.new-reader.ensures.now) at_job in
     search (served, rules)
 
 pub returns-in-Err-next-clause-serves : goal.returns-in-Err-next-clause-serves
@@ -90,11 +92,11 @@ returns-in-Err-next-clause-serves g c =
     let rest = g.S.Source.left (source_of c.next.new.self).now in
     let before = g.K.Sink.held c.args.out.now in
     let now = g.K.Sink.held c.commands.out in
-    let stopped : Serves j w MOST_SCRIPT first rest before now (Err c.halt_of.result) =
-    at_stop j w MOST_SCRIPT (reading_of c.new-reader.result) c.commands.session (reading_of c.commands.reader) first (g.S.Source.left (source_of c.commands.reader).now) before now inv.stands (reading_of c.next.new.self) rest
+    let stopped : Serves j w most_script first rest before now (Err c.halt_of.result) =
+    at_stop j w most_script (reading_of c.new-reader.result) c.commands.session (reading_of c.commands.reader) first (g.S.Source.left (source_of c.commands.reader).now) before now inv.stands (reading_of c.next.new.self) rest
     n.ahead n.room n.open c.in-Err-next.fault c.halt_of.result c.halt_of.ensures c.in-Err-next.ensures.told (c.in-Err-next.ensures.taken inv.clear) in
-    let at_job = subst (λ (k : ℕ). Serves (meaning (g.J.Job.accepts k) (g.J.Job.emits k) (g.J.Job.joined k) (g.J.Job.text k)) w MOST_SCRIPT first rest before now (Err c.halt_of.result)) (ap (λ (h : Held). h.setting) c.in-Ok.ensures) stopped in
-    let served = subst (λ (o : Option (List ℕ)). Serves (meaning (g.J.Job.accepts (g.J.Job.setting c.args.job)) (g.J.Job.emits (g.J.Job.setting c.args.job)) (g.J.Job.joined (g.J.Job.setting c.args.job)) (g.J.Job.text (g.J.Job.setting c.args.job))) w MOST_SCRIPT o rest before now (Err c.halt_of.result)) (ap g.S.Source.left n.now) at_job in
+    let at_job = subst (λ (k : ℕ). Serves (meaning (g.J.Job.accepts k) (g.J.Job.emits k) (g.J.Job.joined k) (g.J.Job.text k)) w most_script first rest before now (Err c.halt_of.result)) (ap (λ (h : Held). h.setting) c.in-Ok.ensures) stopped in
+    let served = subst (λ (o : Option (List ℕ)). Serves (meaning (g.J.Job.accepts (g.J.Job.setting c.args.job)) (g.J.Job.emits (g.J.Job.setting c.args.job)) (g.J.Job.joined (g.J.Job.setting c.args.job)) (g.J.Job.text (g.J.Job.setting c.args.job))) w most_script o rest before now (Err c.halt_of.result)) (ap g.S.Source.left n.now) at_job in
     search (served, rules)
 
 pub returns-in-Err-step-clause-serves : goal.returns-in-Err-step-clause-serves
@@ -111,14 +113,14 @@ returns-in-Err-step-clause-serves g c =
     let halt = c.in-Err-step.halt in
     let at_s = subst (λ (k : ℕ). Steps (meaning (g.J.Job.accepts k) (g.J.Job.emits k) (g.J.Job.joined k) (g.J.Job.text k)) c.commands.session c.step.new.self c.in-Ok-Some.command c.line.result now wrote (Err halt)) inv.setting c.in-Err-step.ensures.steps in
     let steps = subst (λ (n : ℕ). Steps j c.commands.session c.step.new.self c.in-Ok-Some.command n now wrote (Err halt)) c.line.ensures at_s in
-    let halted : Serves j w MOST_SCRIPT first rest before wrote (Err halt) =
-    at_halt j w MOST_SCRIPT (reading_of c.new-reader.result) c.commands.session (reading_of c.commands.reader) first (g.S.Source.left (source_of c.commands.reader).now) before now inv.stands (reading_of c.next.new.self) rest
+    let halted : Serves j w most_script first rest before wrote (Err halt) =
+    at_halt j w most_script (reading_of c.new-reader.result) c.commands.session (reading_of c.commands.reader) first (g.S.Source.left (source_of c.commands.reader).now) before now inv.stands (reading_of c.next.new.self) rest
     c.step.new.self c.in-Ok-Some.command wrote halt (rw c.in-Ok-Some.field-0-is at c.in-Ok-Some.ensures.told) (step_comes j c.commands.session c.step.new.self c.in-Ok-Some.command (reading_of c.next.new.self).last now wrote (Err halt) steps) in
-    let at_job = subst (λ (k : ℕ). Serves (meaning (g.J.Job.accepts k) (g.J.Job.emits k) (g.J.Job.joined k) (g.J.Job.text k)) w MOST_SCRIPT first rest before wrote (Err halt)) (ap (λ (h : Held). h.setting) c.in-Ok.ensures) halted in
-    let served = subst (λ (o : Option (List ℕ)). Serves (meaning (g.J.Job.accepts (g.J.Job.setting c.args.job)) (g.J.Job.emits (g.J.Job.setting c.args.job)) (g.J.Job.joined (g.J.Job.setting c.args.job)) (g.J.Job.text (g.J.Job.setting c.args.job))) w MOST_SCRIPT o rest before wrote (Err halt)) (ap g.S.Source.left c.new-reader.ensures.now) at_job in
+    let at_job = subst (λ (k : ℕ). Serves (meaning (g.J.Job.accepts k) (g.J.Job.emits k) (g.J.Job.joined k) (g.J.Job.text k)) w most_script first rest before wrote (Err halt)) (ap (λ (h : Held). h.setting) c.in-Ok.ensures) halted in
+    let served = subst (λ (o : Option (List ℕ)). Serves (meaning (g.J.Job.accepts (g.J.Job.setting c.args.job)) (g.J.Job.emits (g.J.Job.setting c.args.job)) (g.J.Job.joined (g.J.Job.setting c.args.job)) (g.J.Job.text (g.J.Job.setting c.args.job))) w most_script o rest before wrote (Err halt)) (ap g.S.Source.left c.new-reader.ensures.now) at_job in
     search (served, rules)
 
 pub returns-in-Err-clause-serves : goal.returns-in-Err-clause-serves
 returns-in-Err-clause-serves g c =
     let s = g.J.Job.setting c.args.job in
-    nothing_yet (meaning (g.J.Job.accepts s) (g.J.Job.emits s) (g.J.Job.joined s) (g.J.Job.text s)) (empty_window c.args.kind c.args.settings.places) MOST_SCRIPT (g.S.Source.left c.args.source.now) (g.K.Sink.held c.args.out.now)
+    nothing_yet (meaning (g.J.Job.accepts s) (g.J.Job.emits s) (g.J.Job.joined s) (g.J.Job.text s)) (empty_window c.args.kind c.args.settings.places) most_script (g.S.Source.left c.args.source.now) (g.K.Sink.held c.args.out.now)

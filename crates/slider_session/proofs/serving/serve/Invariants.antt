@@ -4,8 +4,8 @@ use Rattle.record_text.specs.Reader.{reading_of, source_of}
 use Rattle.window_manager.specs.Windows.{empty_window}
 use Rattle.slider_session.specs.Output.{meaning}
 use Rattle.slider_session.specs.Calls.{accepted_of}
-use Rattle.slider_session.specs.Serving.{FitsMeters}
-use Rattle.slider_session.specs.declared.serving.TheConstants.{MOST_SCRIPT}
+use Rattle.slider_session.specs.Serving.{most_script, FitsMeters}
+use Rattle.slider_session.specs.Meters.{MetersRose}
 use Rattle.slider_session.proofs.Walks.{Stands}
 use Rattle.slider_session.proofs.serving.serve.Given as goal
 
@@ -20,9 +20,10 @@ invariant-commands g l =
       runs : l.session.runs ≤ (reading_of l.reader).line;
       accepted : accepted_of l.session ≤ (reading_of l.reader).line;
       meters : FitsMeters l.meters.lanes.items l.meters.parts.items;
+      counted : MetersRose g.J.Meter.Meter.maps g.J.Meter.Meter.merges g.J.Meter.Meter.joins l.initial.meters.lanes.items l.initial.meters.parts.items l.meters.lanes.items l.meters.parts.items;
       source_later : g.S.Source.faults (source_of l.initial.reader).now ≤ g.S.Source.faults (source_of l.reader).now;
       later : g.K.Sink.faults l.initial.out ≤ g.K.Sink.faults l.out;
-      stands : Stands (meaning (g.J.Job.accepts s) (g.J.Job.emits s) (g.J.Job.joined s) (g.J.Job.text s)) (empty_window l.fn.kind l.fn.settings.places) MOST_SCRIPT (reading_of l.initial.reader) l.session (reading_of l.reader) (g.S.Source.left (source_of l.initial.reader).now) (g.S.Source.left (source_of l.reader).now) (g.K.Sink.held l.initial.out) (g.K.Sink.held l.out);
+      stands : Stands (meaning (g.J.Job.accepts s) (g.J.Job.emits s) (g.J.Job.joined s) (g.J.Job.text s)) (empty_window l.fn.kind l.fn.settings.places) most_script (reading_of l.initial.reader) l.session (reading_of l.reader) (g.S.Source.left (source_of l.initial.reader).now) (g.S.Source.left (source_of l.reader).now) (g.K.Sink.held l.initial.out) (g.K.Sink.held l.out);
     }
 
 abbrev pub decreases-commands : goal.decreases-commands
