@@ -9,7 +9,8 @@ use Rattle.record_text.specs.declared.command.Command.TheVariants.{Bucket, Drop,
 use Rattle.record_text.specs.declared.reading.Reading.{Reading}
 use Rattle.record_text.specs.Reading.{NextTold, to_come}
 use Rattle.record_text.specs.Script.{Script, commands}
-use Rattle.slider_program.specs.Summaries.{most_script, runs_in, runs_of}
+use Rattle.slider_session.specs.Serving.{most_script}
+use Rattle.slider_program.specs.Summaries.{runs_in, runs_of}
 
 -- a command is one run at the most
 pub one_at_most : (c : Command) → runs_in c ≤ 1

@@ -9,11 +9,11 @@ use Rattle.record_text.specs.Script.{Ending, commands}
 use Rattle.window_manager.specs.Windows.{WindowState}
 use Rattle.slider_session.specs.Output.{Meaning, output_of, ending_of}
 use Rattle.record_text.specs.Lines.{whole_lines}
-use Rattle.slider_session.specs.Serving.{Writes, Whole, AtFault, OfTaken, WritesFront}
+use Rattle.slider_session.specs.Serving.{Writes, Whole, AtFault, OfTaken, WritesFront, most_script}
 use Rattle.slider_program.specs.Words.{fault_line, end_line}
 use Rattle.program_words.specs.declared.plan.JobName.{JobName}
 use Rattle.program_words.specs.declared.plan.JobName.TheVariants.{Count, Index, Latest, TopK}
-use Rattle.slider_program.specs.Summaries.{most_script, summary_of}
+use Rattle.slider_program.specs.Summaries.{summary_of}
 use Rattle.slider_program.specs.Program.{Seen, Tries, SumsUp, Answered, AnsweredBy, AnsweredFor}
 
 -- a whole output is a front of itself

@@ -6,14 +6,14 @@ use Rattle.record_text.specs.declared.script_fault.Why.{Why}
 use Rattle.record_text.specs.Script.{commands}
 use Rattle.window_manager.specs.Windows.{WindowState, empty_window}
 use Rattle.slider_session.specs.Output.{Meaning, ending_of}
-use Rattle.slider_session.specs.Serving.{Whole, AtFault, OfTaken, WritesFront}
+use Rattle.slider_session.specs.Serving.{Whole, AtFault, OfTaken, WritesFront, most_script}
 use Rattle.program_words.specs.declared.plan.JobName.{JobName}
 use Rattle.program_words.specs.declared.plan.JobName.TheVariants.{Count, Index, Latest, TopK}
 use Rattle.program_words.specs.declared.plan.Plan.{Plan}
 use Rattle.program_words.specs.Plans.{kind_of}
 use Rattle.script_generator.specs.Generated.{generated}
 use Rattle.slider_program.specs.Words.{fault_line, end_line}
-use Rattle.slider_program.specs.Summaries.{most_script, summary_of}
+use Rattle.slider_program.specs.Summaries.{summary_of}
 
 -- the window that a script begins with: an empty one, of the kind that the tree is for
 abbrev pub first_window : Plan → WindowState

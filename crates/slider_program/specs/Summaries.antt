@@ -7,10 +7,7 @@ use Rattle.record_text.specs.declared.command.Command.TheVariants.{Run}
 use Rattle.record_text.specs.Script.{Script, commands}
 use Rattle.window_manager.specs.Windows.{WindowState}
 use Rattle.slider_session.specs.Output.{Meaning, output_of}
-
--- the limit of a script
-abbrev pub most_script : ℕ
-most_script = 4294967296
+use Rattle.slider_session.specs.Serving.{most_script}
 
 -- how many runs a command is
 abbrev pub runs_in : Command → ℕ

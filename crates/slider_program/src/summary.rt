@@ -4,9 +4,9 @@ ghost use Rattle.definitions.specs.Outside.{Told};
 ghost use Rattle.record_text.specs.Script.{commands};
 ghost use Rattle.window_manager.specs.Windows.{empty_window};
 ghost use Rattle.slider_session.specs.Output.{meaning};
-ghost use Rattle.slider_session.specs.Serving.{FitsMeters};
+ghost use Rattle.slider_session.specs.Serving.{FitsMeters, most_script};
 ghost use Rattle.slider_session.specs.Settings.{AreWithin};
-ghost use Rattle.slider_program.specs.Summaries.{most_script, runs_in, runs_of, summary_line, summary_of};
+ghost use Rattle.slider_program.specs.Summaries.{runs_in, runs_of, summary_line, summary_of};
 
 use job_laws::{Job, MeterRow};
 use record_text::{Command, Kind, ScriptFault, ScriptReader};

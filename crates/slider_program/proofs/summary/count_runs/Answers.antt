@@ -3,7 +3,8 @@ use Rattle.std.specs.Prelude.{Option}
 use Rattle.definitions.specs.Outside.{Told}
 use Rattle.record_text.specs.Reader.{reading_of, source_of}
 use Rattle.record_text.specs.Script.{commands}
-use Rattle.slider_program.specs.Summaries.{most_script, runs_of}
+use Rattle.slider_session.specs.Serving.{most_script}
+use Rattle.slider_program.specs.Summaries.{runs_of}
 use Rattle.slider_program.proofs.RunCounts.{Counts, none_counted, one_counted, all_counted, one_at_most}
 use Rattle.slider_program.proofs.summary.count_runs.Goals as goal
 
