@@ -13,7 +13,7 @@ replaced rose same xs k y within here i d =
       | true ↦ λ eq.
           let at : k ≡ i = grind (arith, nat_tests) in
           subst (λ n. rose (slice_index_or xs n d) (slice_index_or (slice_set xs k y) n d)) at
-              (subst (λ z. rose (slice_index_or xs k d) z) (sym (get_or-set_same xs k y d within)) (here d))
+          (subst (λ z. rose (slice_index_or xs k d) z) (sym (get_or-set_same xs k y d within)) (here d))
       | false ↦ λ other.
           let differ : i ≢ k = grind (arith, nat_tests) in
           subst (λ z. rose (slice_index_or xs i d) z) (sym (get_or-set_other xs k i y d differ)) (same (slice_index_or xs i d))
