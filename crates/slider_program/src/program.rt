@@ -4,6 +4,7 @@ ghost use Rattle.definitions.specs.Outside.{Told, GainsFront};
 ghost use Rattle.window_manager.specs.Windows.{empty_window};
 ghost use Rattle.slider_session.specs.Output.{meaning};
 ghost use Rattle.slider_session.specs.Serving.{FitsMeters};
+ghost use Rattle.slider_session.specs.Meters.{MetersRose};
 ghost use Rattle.slider_session.specs.Settings.{AreWithin};
 ghost use Rattle.program_words.specs.Plans.{IsWithin, plan_of};
 ghost use Rattle.program_words.specs.Usages.{line_for};
@@ -68,6 +69,7 @@ fn serve_script<J: Job, S: Source, K: Sink, E: Sink>(
         record { left = S.left source.old; held = K.held out.old; said = E.held err.old; source_faults = S.faults source.old; out_faults = K.faults out.old; err_faults = E.faults err.old }
         record { left = S.left source.new; held = K.held out.new; said = E.held err.new; source_faults = S.faults source.new; out_faults = K.faults out.new; err_faults = E.faults err.new } result }
     ensures meters { FitsMeters meters.new.lanes.items meters.new.parts.items }
+    ensures counted { MetersRose J.Meter.maps J.Meter.merges J.Meter.joins meters.old.lanes.items meters.old.parts.items meters.new.lanes.items meters.new.parts.items }
 {
     match serve(alloc, job, settings, kind, source, out, meters) {
         Ok(()) => 0,
@@ -104,6 +106,7 @@ fn sum_up<J: Job, K: Sink>(
     ensures summed { SumsUp (summary_of (meaning (J.accepts (J.setting job)) (J.emits (J.setting job)) (J.joined (J.setting job)) (J.text (J.setting job))) (empty_window kind settings.places) script.items)
         (K.held out.old) (K.held out.new) (K.faults out.old) (K.faults out.new) result }
     ensures meters { FitsMeters meters.new.lanes.items meters.new.parts.items }
+    ensures counted { MetersRose J.Meter.maps J.Meter.merges J.Meter.joins meters.old.lanes.items meters.old.parts.items meters.new.lanes.items meters.new.parts.items }
 {
     match summary_of(alloc, job, settings, kind, script, meters) {
         Ok(line) => status_of_summary(out, line.as_bytes()),
@@ -128,6 +131,7 @@ fn run_job<J: Job, S: Source, K: Sink, E: Sink>(
         record { left = S.left source.new; held = K.held out.new; said = E.held err.new; source_faults = S.faults source.new; out_faults = K.faults out.new; err_faults = E.faults err.new } result }
     ensures untouched { IsSome plan.seed → (source.new ≡ source.old) × (err.new ≡ err.old) }
     ensures meters { FitsMeters meters.new.lanes.items meters.new.parts.items }
+    ensures counted { MetersRose J.Meter.maps J.Meter.merges J.Meter.joins meters.old.lanes.items meters.old.parts.items meters.new.lanes.items meters.new.parts.items }
 {
     let kind = plan.tree.kind();
     let Some(seed) = plan.seed else {
@@ -160,6 +164,7 @@ fn run_plan<S: Source, K: Sink, E: Sink, B: JobSet>(
         record { left = S.left source.new; held = K.held out.new; said = E.held err.new; source_faults = S.faults source.new; out_faults = K.faults out.new; err_faults = E.faults err.new } result }
     ensures untouched { IsSome plan.seed → (source.new ≡ source.old) × (err.new ≡ err.old) }
     ensures meters { FitsMeters meters.new.lanes.items meters.new.parts.items }
+    ensures counted { MetersRose B.Meter.maps B.Meter.merges B.Meter.joins meters.old.lanes.items meters.old.parts.items meters.new.lanes.items meters.new.parts.items }
 {
     match plan.job {
         JobName::Count => run_job(alloc, jobs.count(), plan, source, out, err, meters),
@@ -199,6 +204,7 @@ pub fn run_program<Q: Threads + Wait + Sync, S: Source, K: Sink, E: Sink, B: Job
         record { left = S.left source.new; held = K.held out.new; said = E.held err.new; source_faults = S.faults source.new; out_faults = K.faults out.new; err_faults = E.faults err.new } result }
     ensures generated { (plan : Plan) → plan_of (map string_bytes words.now) ≡ Ok plan → IsSome plan.seed → (source.new ≡ source.old) × (err.new ≡ err.old) }
     ensures meters { FitsMeters meters.new.lanes.items meters.new.parts.items }
+    ensures counted { MetersRose B.Meter.maps B.Meter.merges B.Meter.joins meters.old.lanes.items meters.old.parts.items meters.new.lanes.items meters.new.parts.items }
 {
     match read_words(alloc, words) {
         Ok(plan) => run_plan(alloc, plan, jobs, source, out, err, meters),

@@ -4,6 +4,7 @@ ghost use Rattle.definitions.specs.Outside.{Told};
 ghost use Rattle.record_text.specs.Script.{commands};
 ghost use Rattle.window_manager.specs.Windows.{empty_window};
 ghost use Rattle.slider_session.specs.Output.{meaning};
+ghost use Rattle.slider_session.specs.Meters.{MetersRose};
 ghost use Rattle.slider_session.specs.Serving.{FitsMeters, most_script};
 ghost use Rattle.slider_session.specs.Settings.{AreWithin};
 ghost use Rattle.slider_program.specs.Summaries.{runs_in, runs_of, summary_line, summary_of};
@@ -69,6 +70,7 @@ pub fn summary_of<J: Job>(
     requires meters { FitsMeters meters.old.lanes.items meters.old.parts.items }
     ensures summary { IfOk result (λ line. string_bytes line ≡ summary_of (meaning (J.accepts (J.setting job)) (J.emits (J.setting job)) (J.joined (J.setting job)) (J.text (J.setting job))) (empty_window kind settings.places) script.items) }
     ensures meters { FitsMeters meters.new.lanes.items meters.new.parts.items }
+    ensures counted { MetersRose J.Meter.maps J.Meter.merges J.Meter.joins meters.old.lanes.items meters.old.parts.items meters.new.lanes.items meters.new.parts.items }
 {
     let mut first = SureSource::new(Vec::from_slice(alloc, script.as_slice())?);
     let Ok(runs) = count_runs(alloc, &mut first) else {
