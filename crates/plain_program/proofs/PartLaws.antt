@@ -1,5 +1,5 @@
 -- Parts of lists of records, and the first chunk of what is left.
-use Rattle.std.proofs.Common.{◌≡◌, ◌<◌, ◌≤◌, ℕ, ◌+◌, ◌-◌, List, [], ◌∷◌, ◌++◌, length, take, drop, None, refl, sym, ap, ◌∙◌, arith, append-nil, length-append}
+use Rattle.std.proofs.Common.{◌≡◌, ◌<◌, ℕ, ◌+◌, ◌-◌, List, [], ◌∷◌, ◌++◌, length, take, drop, None, sym, ap, ◌∙◌, arith}
 use Rattle.std.proofs.lemmas.List.{take_all, drop_all, length-drop, drop-append-le, take-append-le, drop-drop}
 use Rattle.marker_chunker.specs.Cuts.{chunks_of, joined, AreChunks, first_length}
 use Rattle.marker_chunker.proofs.CutLaws.{chunks_all, chunks_are, joined_chunks}

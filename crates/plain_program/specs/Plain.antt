@@ -1,5 +1,5 @@
 -- What the steps of the plain program make.
-use Rattle.std.specs.Prelude.{◌≡◌, ℕ, List, [], ◌∷◌, Option, fold}
+use Rattle.std.specs.Prelude.{ℕ, List, [], ◌∷◌, Option, fold}
 use Rattle.std.specs.declared.option.Option.TheVariants.{Some, None}
 use Rattle.std.specs.FinMap.Entries.{by_order}
 use Rattle.definitions.specs.Tables.{key_cmp, joined_all}

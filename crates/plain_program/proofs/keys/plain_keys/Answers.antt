@@ -1,6 +1,5 @@
-use Rattle.std.proofs.Common.{rules, arith, ◌≡◌, ◌∷◌, ◌++◌, [], ◌-◌, length, take, sym, ap, ◌∙◌, append-nil, append_assoc}
+use Rattle.std.proofs.Common.{arith, ◌≡◌, ◌∷◌, ◌++◌, [], ◌-◌, length, take, sym, ap, ◌∙◌, append-nil, append_assoc}
 use Rattle.std.proofs.lemmas.Grind.{common_steps}
-use Rattle.definitions.specs.Tables.{keys_of}
 use Rattle.plain_program.specs.Plain.{key_among}
 use Rattle.plain_program.proofs.KeyLaws.{keys_of-cons, keys_of-nothing}
 use Rattle.plain_program.proofs.keys.plain_keys.Goals as goal

@@ -1,4 +1,4 @@
-use Rattle.std.proofs.Common.{◌≡◌, List, ℕ, ◌++◌, length}
+use Rattle.std.proofs.Common.{◌≡◌, List, ◌++◌, length}
 use Rattle.definitions.specs.Tables.{keys_of}
 use Rattle.plain_program.proofs.keys.plain_keys.Given as goal
 

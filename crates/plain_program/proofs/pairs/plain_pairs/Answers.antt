@@ -1,5 +1,4 @@
-use Rattle.std.proofs.Common.{◌≡◌, ◌++◌, [], take, sym, ap, ◌∙◌}
-use Rattle.std.specs.Prelude.{slice_index_or}
+use Rattle.std.proofs.Common.{◌++◌, take, sym, ap, ◌∙◌}
 use Rattle.definitions.specs.Answer.{pairs_of}
 use Rattle.definitions.proofs.AnswerLaws.{pairs_of-append}
 use Rattle.marker_chunker.specs.Cuts.{joined}

@@ -1,4 +1,4 @@
-use Rattle.std.proofs.Common.{◌≡◌, ℕ, ◌<◌, ◌^◌, sym, subst, All, refl, arith, ◌∙◌}
+use Rattle.std.proofs.Common.{ℕ, ◌<◌, ◌^◌, sym, subst, All, refl, arith}
 use Rattle.std.proofs.lemmas.List.Elements.{All-push}
 use Rattle.record_text.specs.declared.command.Command.{Command}
 use Rattle.record_text.specs.Reading.{to_come}

@@ -1,4 +1,4 @@
-use Rattle.std.proofs.Common.{◌≡◌, ◌++◌, ◌-◌, ◌<◌, ◌≤◌, ◌^◌, All, ℕ, List, None}
+use Rattle.std.proofs.Common.{◌≡◌, ◌++◌, ◌-◌, ◌<◌, ◌^◌, All, None}
 use Rattle.std.specs.Prelude.{Some}
 use Rattle.record_text.specs.Reading.{Sound, to_come}
 use Rattle.record_text.specs.Reader.{reading_of, source_of}

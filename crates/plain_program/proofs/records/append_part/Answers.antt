@@ -1,4 +1,4 @@
-use Rattle.std.proofs.Common.{◌≡◌, ◌++◌, ◌∷◌, ◌-◌, List, ℕ, [], take, drop, get_or, sym, ap, ◌∙◌, append_assoc, arith}
+use Rattle.std.proofs.Common.{◌++◌, ◌∷◌, ◌-◌, List, ℕ, [], take, drop, get_or, sym, ap, ◌∙◌, append_assoc, arith}
 use Rattle.marker_chunker.proofs.Parts.{part_more}
 use Rattle.plain_program.proofs.records.append_part.Goals as goal
 

@@ -1,9 +1,7 @@
-use Rattle.std.proofs.Common.{◌≡◌, ◌<◌, ◌≤◌, ◌+◌, List, ℕ, length, take, sym, ap, ◌∙◌, arith}
-use Rattle.definitions.specs.Records.{text_of}
+use Rattle.std.proofs.Common.{◌<◌, ◌+◌, sym, arith}
 use Rattle.chunk_store.specs.Documents.{text_size}
 use Rattle.chunk_store.proofs.Texts.{chunks_take}
-use Rattle.window_manager.specs.Windows.{Leaf}
-use Rattle.window_manager.proofs.PlaceLaws.{nat_below, nat_not_below}
+use Rattle.window_manager.proofs.PlaceLaws.{nat_below}
 use Rattle.window_manager.proofs.TextLaws.{size_front}
 use Rattle.plain_program.proofs.refusing.is_large.Goals as goal
 

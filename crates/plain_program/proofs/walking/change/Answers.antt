@@ -1,4 +1,4 @@
-use Rattle.std.proofs.Common.{◌≡◌, sym, subst, ◌∙◌}
+use Rattle.std.proofs.Common.{sym, subst, ◌∙◌}
 use Rattle.slider_session.specs.Accepted.{HoldsAccepted}
 use Rattle.slider_session.proofs.Accepted.{keeps_accepted}
 use Rattle.plain_program.proofs.walking.change.Goals as goal

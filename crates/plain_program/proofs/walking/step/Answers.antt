@@ -1,4 +1,4 @@
-use Rattle.std.proofs.Common.{◌≡◌, sym, subst}
+use Rattle.std.proofs.Common.{sym, subst}
 use Rattle.std.specs.Prelude.{IfOk}
 use Rattle.record_text.specs.declared.command.Command.{Command}
 use Rattle.slider_session.specs.Output.{meaning}
