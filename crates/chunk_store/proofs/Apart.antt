@@ -4,7 +4,7 @@ use Rattle.std.specs.List.{filter}
 use Rattle.std.specs.Ordering.{is_lt, is_eq, eq_by_cmp}
 use Rattle.std.specs.declared.cmp.Ordering.{Ordering}
 use Rattle.std.specs.declared.cmp.Ordering.TheVariants.{Less, Equal, Greater}
-use Rattle.std.proofs.lemmas.Cmp.{nat_list_cmp_total, tied_itself, tied_back, alike_right}
+use Rattle.std.proofs.lemmas.Cmp.{nat_list_cmp_total, tied_itself, alike_right}
 use Rattle.record_text.specs.Names.{name_cmp}
 use Rattle.chunk_store.specs.Files.{File, smaller, greater, file_at, file_of, with_file}
 use Rattle.chunk_store.proofs.Shelves.{is_less, less_back, greater_back, same_name}

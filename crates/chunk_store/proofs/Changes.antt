@@ -1,11 +1,11 @@
 -- What a change of one document makes of the list of files.
-use Rattle.std.proofs.Common.{◌≡◌, ◌≢◌, ◌≤◌, ◌<◌, ℕ, suc, ◌+◌, ◌-◌, List, [], ◌∷◌, ◌++◌, length, take, drop, get_or, set, refl, sym, ap, subst, ◌∙◌, arith}
+use Rattle.std.proofs.Common.{◌≡◌, ◌≢◌, ◌≤◌, ℕ, suc, ◌+◌, ◌-◌, List, [], ◌∷◌, ◌++◌, length, take, drop, get_or, set, sym, ap, ◌∙◌, arith}
 use Rattle.std.proofs.lemmas.List.{length-set, take-set, drop-set-lt, get_or-set_same, set_split, get_or_read}
 use Rattle.marker_chunker.specs.Cuts.{joined, chunks_of}
 use Rattle.chunk_store.specs.Documents.{text_size}
-use Rattle.chunk_store.specs.Files.{File, HasDocuments, all_chunks, ends_of, file_at, file_of, smaller, greater, with_file, IsAt, IsShelf}
+use Rattle.chunk_store.specs.Files.{File, HasDocuments, all_chunks, ends_of, file_at, file_of, greater, with_file, IsAt, IsShelf}
 use Rattle.chunk_store.proofs.Ends.{ends_length, ends_take}
-use Rattle.chunk_store.proofs.Together.{all_append, all_with, at_with, chunks_size, count_at, docs_with, doc_at, shelf_with, split_at, text_part}
+use Rattle.chunk_store.proofs.Together.{all_append, all_with, at_with, chunks_size, count_at, docs_with, doc_at, shelf_with}
 
 -- the file at its place
 pub file_is : (name : List ℕ) (files : List File) (i : ℕ) (f : File) → IsAt name files i → f ≡ get_or files i f → (f.0 ≡ name) × (f.1 ≡ file_at name files)

@@ -1,12 +1,12 @@
 -- The steps of a cutter.
-use Rattle.std.proofs.Common.{◌≡◌, ◌≢◌, ◌≤◌, ◌<◌, ℕ, suc, ◌+◌, Bool, true, false, ◌&&◌, ◌||◌, nat_lt, nat_le, List, [], ◌∷◌, ◌++◌, length, Some, None, Option, refl, sym, ap, subst, ◌∙◌, arith, append-nil, append_assoc, length-append}
+use Rattle.std.proofs.Common.{◌≡◌, ◌≤◌, ℕ, ◌+◌, Bool, true, false, ◌&&◌, ◌||◌, nat_lt, nat_le, List, [], ◌∷◌, ◌++◌, length, Some, None, Option, refl, sym, ap, subst, ◌∙◌, arith, append-nil, length-append}
 use Rattle.std.proofs.lemmas.Bool.{ltb-false}
 use Rattle.definitions.specs.Records.{IsRecord, text_of}
 use Rattle.marker_chunker.proofs.Parts.{size_push}
 use Rattle.marker_chunker.specs.Markers.{is_marker}
-use Rattle.marker_chunker.specs.Cuts.{first_or, last_marks, ends_by, ends, joined, IsOpen, IsChunk, AreChunks, reach, chunks_of}
+use Rattle.marker_chunker.specs.Cuts.{last_marks, ends_by, ends, joined, AreChunks, reach, chunks_of}
 use Rattle.marker_chunker.proofs.CutLaws.{joined_append, are_chunks_append, open_more, open_ends, last_marks_push, ends_is, no_boundary}
-use Rattle.chunk_store.specs.Cutting.{Cutting, records_of, IsCutting, IsBegun, stops_at, closed}
+use Rattle.chunk_store.specs.Cutting.{IsCutting, stops_at, closed}
 
 or_false : (a b : Bool) → (a || b) ≡ false → b ≡ false
 or_false true b h = cc

@@ -1,6 +1,6 @@
 -- Places among chunks.
-use Rattle.std.proofs.Common.{◌≡◌, ◌≤◌, ◌<◌, ℕ, zero, suc, ◌+◌, ◌-◌, Bool, true, false, List, [], ◌∷◌, ◌++◌, length, Some, None, Option, refl, sym, ap, subst, ◌∙◌, arith, append-nil, append_assoc, take, drop, get_or, length-append, below_more, take-add}
-use Rattle.std.proofs.lemmas.List.{drop_more, take-append-drop, drop_all, take_all, drop-drop, drop_at, drop-append-le, take_at, take-append-le, take_more}
+use Rattle.std.proofs.Common.{◌≡◌, ◌≤◌, ◌<◌, ℕ, zero, suc, ◌+◌, ◌-◌, true, List, [], ◌∷◌, ◌++◌, length, Some, None, Option, refl, sym, ap, ◌∙◌, arith, take, drop, get_or, length-append, below_more}
+use Rattle.std.proofs.lemmas.List.{drop_more, take-append-drop, drop_all, take_all, drop_at, drop-append-le, take_at, take-append-le}
 use Rattle.marker_chunker.specs.Cuts.{first_or, joined, AreChunks, reach, chunks_of, ends}
 use Rattle.marker_chunker.proofs.CutLaws.{joined_append, not_empty}
 use Rattle.chunk_store.specs.Cutting.{stops_at}

@@ -1,5 +1,5 @@
 -- What a document answers, told of all files.
-use Rattle.std.proofs.Common.{◌≡◌, ◌≢◌, ◌≤◌, ◌<◌, ℕ, ◌+◌, Bool, true, false, List, [], ◌++◌, length, take, drop, Result, Ok, Err, refl, sym, ap, subst, ◌∙◌, arith, ◌⊎◌, inl, inr}
+use Rattle.std.proofs.Common.{◌≡◌, ◌≤◌, ◌<◌, ℕ, ◌+◌, Bool, true, false, List, [], ◌++◌, length, drop, Result, Ok, Err, refl, sym, ap, subst, ◌∙◌, arith, inl, inr}
 use Rattle.std.proofs.lemmas.Bool.{cases_order}
 use Rattle.std.proofs.lemmas.List.{take_all, drop_all}
 use Rattle.definitions.specs.Records.{text_of}
@@ -9,8 +9,8 @@ use Rattle.chunk_store.specs.declared.change.Change.{Change}
 use Rattle.chunk_store.specs.declared.change.EditFault.{EditFault}
 use Rattle.chunk_store.specs.declared.change.EditFault.TheVariants.{TooMany, WindowLarge, Mem}
 use Rattle.chunk_store.specs.Documents.{spliced, text_size, Answers, IsSplice}
-use Rattle.chunk_store.specs.Files.{File, all_chunks, chunks_before, file_at, raised, with_file, IsGap, IsAt}
-use Rattle.chunk_store.proofs.Together.{IsSplit, split_gap, split_at, text_with, splice_with}
+use Rattle.chunk_store.specs.Files.{File, all_chunks, chunks_before, file_at, raised, with_file, IsGap}
+use Rattle.chunk_store.proofs.Together.{IsSplit, split_gap, text_with, splice_with}
 
 pub not_true : (b : Bool) → b ≡ false → b ≡ true → ⊥
 not_true b h e = cc

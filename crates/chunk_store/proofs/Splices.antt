@@ -1,10 +1,9 @@
 -- What was cut again, between the shared chunks, is what is cut from nothing.
-use Rattle.std.proofs.Common.{◌≡◌, ◌≤◌, ◌<◌, ℕ, zero, suc, ◌+◌, ◌-◌, List, [], ◌∷◌, ◌++◌, length, Some, None, Option, refl, sym, ap, subst, ◌∙◌, arith, append-nil, append_assoc, take, drop, get_or, length-append, ◌⊎◌, inl, inr}
+use Rattle.std.proofs.Common.{◌≡◌, ◌≤◌, ◌<◌, ℕ, zero, suc, ◌+◌, ◌-◌, List, [], ◌∷◌, ◌++◌, length, None, refl, sym, ap, subst, ◌∙◌, arith, append_assoc, take, drop, length-append}
 use Rattle.std.proofs.lemmas.List.{take-append-drop, append_cancel_left, length-take-le, length-drop, take_at, drop_at}
 use Rattle.marker_chunker.specs.Cuts.{first_or, joined, AreChunks, reach, chunks_of}
 use Rattle.marker_chunker.proofs.CutLaws.{joined_append, are_chunks_append, are_chunks_left, are_chunks_right, chunks_all, joined_chunks}
 use Rattle.chunk_store.specs.Documents.{NoMeeting, spliced, IsRecut, IsChange, IsSplice}
-use Rattle.chunk_store.specs.declared.change.Change.{Change}
 use Rattle.chunk_store.proofs.Reaches.{reach_split, reach_rises}
 
 not_before : (a b x y : ℕ) → (a < b → x < y) → y ≤ x → b ≤ a

@@ -1,8 +1,8 @@
 -- Sizes of texts.
-use Rattle.std.proofs.Common.{◌≡◌, ◌≤◌, ◌<◌, ℕ, ◌+◌, ◌-◌, List, [], ◌∷◌, ◌++◌, length, refl, sym, ap, ◌∙◌, arith, take, drop, get_or, length-append}
+use Rattle.std.proofs.Common.{◌≡◌, ◌≤◌, ◌<◌, ℕ, ◌+◌, ◌-◌, List, [], ◌∷◌, ◌++◌, length, sym, ap, ◌∙◌, arith, take, drop, get_or, length-append}
 use Rattle.std.proofs.lemmas.List.{take-append-drop, take_more, take-take}
 use Rattle.definitions.specs.Records.{text_of}
-use Rattle.marker_chunker.specs.Cuts.{joined, reach}
+use Rattle.marker_chunker.specs.Cuts.{joined}
 use Rattle.marker_chunker.proofs.CutLaws.{joined_append}
 use Rattle.marker_chunker.proofs.Parts.{size_push}
 use Rattle.chunk_store.specs.Documents.{text_size, spliced}

@@ -1,6 +1,6 @@
 -- A list of records that is being cut: the chunks that are done, and the records of the one that is begun.
-use Rattle.std.specs.Prelude.{◌≡◌, ◌≤◌, ℕ, ◌+◌, Bool, true, false, List, [], ◌∷◌, ◌++◌, length, Option}
-use Rattle.std.specs.declared.option.Option.TheVariants.{Some, None}
+use Rattle.std.specs.Prelude.{◌≡◌, ◌≤◌, ℕ, ◌+◌, Bool, true, List, [], ◌∷◌, ◌++◌, length, Option}
+use Rattle.std.specs.declared.option.Option.TheVariants.{None}
 use Rattle.definitions.specs.Records.{text_of}
 use Rattle.marker_chunker.specs.Cuts.{first_or, last_marks, ends, joined, IsOpen, AreChunks}
 

@@ -1,9 +1,9 @@
 -- Files: documents by name.
-use Rattle.std.specs.Prelude.{◌≡◌, ◌≢◌, ◌≤◌, ◌<◌, ℕ, ◌+◌, Bool, cond, List, [], ◌∷◌, ◌++◌, length, take, drop, slice_index_or}
+use Rattle.std.specs.Prelude.{◌≡◌, ◌≢◌, ◌≤◌, ◌<◌, ℕ, ◌+◌, cond, List, [], ◌∷◌, ◌++◌, length, take, drop, slice_index_or}
 use Rattle.std.specs.List.{filter}
 use Rattle.std.specs.Ordering.{is_lt, eq_by_cmp}
 use Rattle.std.specs.declared.cmp.Ordering.TheVariants.{Less}
-use Rattle.record_text.specs.Names.{IsName, name_cmp}
+use Rattle.record_text.specs.Names.{name_cmp}
 use Rattle.marker_chunker.specs.Cuts.{joined, chunks_of}
 use Rattle.chunk_store.specs.declared.change.Change.{Change}
 use Rattle.chunk_store.specs.Documents.{spliced, text_size, IsChange, IsWhole}

@@ -1,5 +1,5 @@
 -- How pins stay covered: by one call after another, beside pins that stay, and for each answer of a call.
-use Rattle.std.proofs.Common.{◌≡◌, ◌≢◌, ℕ, zero, suc, ◌+◌, ◌-◌, ◌^◌, ◌<◌, ◌≤◌, ◌⊎◌, inl, inr, Bool, true, false, cond, ◌&&◌, ◌||◌, not, ◌==◌, List, [], ◌∷◌, ◌++◌, length, set, get_or, map, refl, sym, ap, subst, ◌∙◌, arith, append_assoc, append-nil}
+use Rattle.std.proofs.Common.{◌≡◌, ℕ, ◌+◌, ◌-◌, ◌<◌, Bool, true, false, cond, ◌&&◌, ◌||◌, ◌==◌, List, [], ◌∷◌, ◌++◌, length, refl, sym, ap, subst, ◌∙◌, arith, append_assoc, append-nil}
 use lib.ListN.{length-set}
 use lib.Seq.{get_or-set_same, get_or-set_other}
 use Rattle.std.proofs.lemmas.Bool.Decides.{nat_tests}
@@ -10,7 +10,7 @@ use Rattle.memo_core.specs.declared.event.Event.{Event}
 use Rattle.memo_core.specs.declared.event.Event.TheVariants.{Look, Keep, Release, Sweep}
 use Rattle.memo_core.specs.declared.event.LookAnswer.TheVariants.{Hit as HitAnswer, Absent as AbsentAnswer, Clash as ClashAnswer}
 use Rattle.memo_core.specs.declared.event.KeepAnswer.TheVariants.{Stored as StoredAnswer, Found as FoundAnswer, Clash as KeepClashAnswer}
-use Rattle.memo_core.specs.History.{held, how_many, says}
+use Rattle.memo_core.specs.History.{held}
 use Rattle.memo_core.proofs.Invariant.{second_true}
 use Rattle.memo_server.specs.Callers.{gives, frees}
 use Rattle.pin_table.specs.Views.{ShardKnown, CallerView, PinView, nothing}
@@ -26,7 +26,7 @@ use Rattle.pin_table.specs.declared.answers.MemoFault.TheVariants.{Worn, Mem}
 use Rattle.pin_table.specs.Covers.{PinName, is_on, count, gave, IsGiven, AreGiven, Covered, IsLater, Balanced, name_of, names_of, looked_pins, kept_pins}
 use Rattle.pin_table.proofs.Places.{at-get, map-push}
 use Rattle.pin_table.proofs.Replies.{at-map}
-use Rattle.pin_table.proofs.Holds.{held-follows, turn-keeps}
+use Rattle.pin_table.proofs.Holds.{held-follows}
 
 -- What is known of a shard after a call at one.
 

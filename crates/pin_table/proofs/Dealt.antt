@@ -1,14 +1,14 @@
 -- Passes that are handed out from the last one on.
-use Rattle.std.proofs.Common.{◌≡◌, ◌≢◌, ℕ, zero, suc, ◌+◌, ◌<◌, ◌≤◌, List, [], ◌∷◌, ◌++◌, length, get_or, set, map, take, drop, Some, slice_get, All, refl, sym, ap, subst, ◌∙◌, arith, add-one, length-append}
+use Rattle.std.proofs.Common.{◌≡◌, ℕ, zero, suc, ◌+◌, ◌<◌, List, [], ◌∷◌, ◌++◌, length, get_or, set, map, take, drop, Some, slice_get, All, refl, sym, ap, subst, ◌∙◌, arith, length-append}
 use lib.Seq.{get_or-set_other}
-use mathlib.Core.Option.{some, some-injective}
+use mathlib.Core.Option.{some}
 use lib.ListN.{get_elem?}
 use Rattle.atomic_table.specs.Seated.{TableId}
 use Rattle.turn_lock.specs.Views.{PassView, unplayed}
-use Rattle.turn_lock.proofs.Views.{at_first, at_length}
+use Rattle.turn_lock.proofs.Views.{at_first}
 use Rattle.memo_server.specs.declared.turn.Turn.{Turn}
 use Rattle.pin_table.specs.Views.{CallerView, with_lock}
-use Rattle.pin_table.proofs.Places.{at-get, at-taken, set-taken, get-at, read-at}
+use Rattle.pin_table.proofs.Places.{set-taken, read-at}
 
 elem-last : {A : Type 0} (xs : List A) (x : A) → get_elem? (xs ++ x ∷ []) (length xs) ≡ some x
 elem-last [] x = refl

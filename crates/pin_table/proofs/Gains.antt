@@ -1,11 +1,10 @@
 -- What a turn of a pass is to what its caller knows.
-use Rattle.std.proofs.Common.{◌≡◌, ◌≢◌, ℕ, ◌+◌, ◌^◌, ◌<◌, ◌≤◌, ◌⊎◌, inl, inr, Bool, true, false, cond, nat_lt, ◌==◌, List, [], ◌∷◌, ◌++◌, Option, Some, None, IsSome, refl, sym, ap, subst, ◌∙◌, arith, append-nil}
+use Rattle.std.proofs.Common.{◌≡◌, ℕ, ◌+◌, ◌^◌, ◌<◌, ◌≤◌, ◌⊎◌, inl, inr, Bool, true, false, cond, nat_lt, ◌==◌, List, [], ◌∷◌, ◌++◌, Option, Some, None, IsSome, refl, sym, ap, subst, ◌∙◌, arith, append-nil}
 use Rattle.std.proofs.lemmas.Bool.Decides.{nat_tests}
 use Rattle.std.specs.Option.{option_and_then}
 use Rattle.turn_lock.specs.declared.knowledge.Known.{Known}
 use Rattle.turn_lock.specs.Under.{under}
 use Rattle.turn_lock.specs.Passes.{Played, WornOut as WornPass}
-use Rattle.turn_lock.proofs.Views.{under-again}
 use Rattle.memo_core.specs.declared.state.CoreState.{CoreState}
 use Rattle.memo_core.specs.declared.event.Event.{Event}
 use Rattle.memo_core.specs.Machine.{replayed, replayed_from, after_event, start}
@@ -15,8 +14,8 @@ use Rattle.memo_server.specs.declared.turn.Turn.TheVariants.{Made, Empty}
 use Rattle.memo_server.specs.Callers.{caller_of, kept, whose, own, IsLegal}
 use Rattle.memo_server.specs.Histories.{events}
 use Rattle.memo_server.proofs.OwnTurns.{events-under, kept-own}
-use Rattle.pin_table.specs.Views.{ShardKnown, known_of, PassFits}
-use Rattle.pin_table.specs.Known.{KnownFits, Gained, Missed, WornOut}
+use Rattle.pin_table.specs.Views.{known_of, PassFits}
+use Rattle.pin_table.specs.Known.{KnownFits, WornOut}
 use Rattle.pin_table.specs.Answers.{Went}
 
 pub events-append : (ts us : List Turn) → events (ts ++ us) ≡ events ts ++ events us

@@ -1,8 +1,8 @@
 -- Callers that give their last passes.
-use Rattle.std.proofs.Common.{◌≡◌, ℕ, suc, ◌+◌, ◌<◌, List, [], ◌∷◌, ◌++◌, length, get_or, set, map, take, drop, Some, slice_get, All, refl, sym, ap, subst, ◌∙◌, arith, add-one}
+use Rattle.std.proofs.Common.{◌≡◌, ℕ, suc, ◌+◌, ◌<◌, List, [], ◌∷◌, ◌++◌, length, get_or, set, map, take, drop, slice_get, All, refl, sym, ap, ◌∙◌, arith, add-one}
 use Rattle.turn_lock.specs.Views.{PassView}
 use Rattle.memo_server.specs.declared.turn.Turn.{Turn}
-use Rattle.pin_table.specs.Views.{ShardKnown, CallerView, known_of, PassFits}
+use Rattle.pin_table.specs.Views.{CallerView, known_of, PassFits}
 use Rattle.pin_table.specs.Closing.{GivesOne, Gives}
 use Rattle.pin_table.proofs.Places.{all-at, at-length, map-push, length-mapped, get-drop, take-one, take-set, drop-set, drop-same}
 use Rattle.pin_table.proofs.Turns.{caller_of_passes}

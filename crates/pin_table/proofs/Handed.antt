@@ -1,13 +1,11 @@
 -- What the passes of one lock say of the callers that gave them.
-use Rattle.std.proofs.Common.{◌≡◌, ◌≢◌, ℕ, zero, suc, ◌+◌, ◌^◌, ◌<◌, ◌≤◌, ◌⊎◌, inl, inr, Bool, true, false, cond, nat_lt, ◌==◌, List, [], ◌∷◌, ◌++◌, length, get_or, map, take, drop, Option, Some, None, slice_get, All, refl, sym, ap, subst, ◌∙◌, arith, add-one, append_assoc}
+use Rattle.std.proofs.Common.{◌≡◌, ℕ, zero, suc, ◌+◌, ◌^◌, ◌<◌, ◌≤◌, Bool, true, false, cond, nat_lt, ◌==◌, List, [], ◌∷◌, ◌++◌, length, get_or, map, take, Some, slice_get, All, refl, sym, ap, subst, ◌∙◌, arith, append_assoc}
 use Rattle.std.proofs.lemmas.Bool.Decides.{nat_tests}
 use mathlib.Core.Option.{some, some-injective}
 use lib.ListN.{get_elem?}
 use Rattle.atomic_table.specs.Seated.{TableId}
 use Rattle.turn_lock.specs.declared.knowledge.Known.{Known}
 use Rattle.turn_lock.specs.Views.{LockView, PassView}
-use Rattle.turn_lock.specs.Under.{under}
-use Rattle.turn_lock.specs.Rule.{Begins}
 use Rattle.turn_lock.specs.Passes.{Closes}
 use Rattle.memo_core.specs.declared.event.Event.{Event}
 use Rattle.memo_server.specs.declared.turn.Turn.{Turn}
@@ -17,7 +15,7 @@ use Rattle.memo_server.specs.Histories.{events}
 use Rattle.memo_server.proofs.OwnTurns.{events-under}
 use Rattle.pin_table.specs.Views.{ShardKnown, CallerView, nothing, known_of}
 use Rattle.pin_table.specs.Known.{known_at}
-use Rattle.pin_table.specs.Ends.{CallerCloses, ShardCloses, Closes as MemoCloses}
+use Rattle.pin_table.specs.Ends.{ShardCloses, Closes as MemoCloses}
 use Rattle.pin_table.specs.Closing.{GivesOne, Gives, AllClose}
 use Rattle.pin_table.proofs.Places.{same_some, some-at, at-inside, all-at, map-get, length-mapped, read-at}
 use Rattle.pin_table.proofs.Gains.{events-append}

@@ -1,5 +1,5 @@
 -- What a caller holds, from turn to turn.
-use Rattle.std.proofs.Common.{◌≡◌, ◌≢◌, ℕ, ◌+◌, ◌-◌, ◌^◌, ◌<◌, ◌≤◌, ◌⊎◌, Bool, true, false, cond, not, ◌&&◌, ◌||◌, ◌==◌, nat_lt, List, [], ◌∷◌, ◌++◌, Option, Some, None, IsSome, refl, sym, ap, subst, ◌∙◌, arith, append-nil}
+use Rattle.std.proofs.Common.{◌≡◌, ℕ, ◌+◌, ◌-◌, ◌^◌, ◌<◌, ◌≤◌, ◌⊎◌, Bool, true, false, cond, not, ◌&&◌, ◌||◌, ◌==◌, List, [], ◌∷◌, ◌++◌, Option, Some, None, IsSome, refl, sym, ap, subst, ◌∙◌, arith, append-nil}
 use Rattle.std.proofs.lemmas.Bool.{eqb-true}
 use Rattle.std.proofs.lemmas.Bool.Decides.{nat_tests}
 use Rattle.std.proofs.lemmas.Cmp.{nat_list_eq_equiv}
@@ -9,12 +9,12 @@ use Rattle.std.specs.Str.{bytes_eq}
 use Rattle.memo_core.specs.declared.entries.CoreEntry.{CoreEntry}
 use Rattle.memo_core.specs.declared.state.CoreState.{CoreState}
 use Rattle.memo_core.specs.declared.event.Event.{Event}
-use Rattle.memo_core.specs.declared.event.Event.TheVariants.{Look, Keep, Release, Sweep}
+use Rattle.memo_core.specs.declared.event.Event.TheVariants.{Look, Keep}
 use Rattle.memo_core.specs.declared.event.LookAnswer.{LookAnswer}
 use Rattle.memo_core.specs.declared.event.LookAnswer.TheVariants.{Hit, Absent, Clash}
 use Rattle.memo_core.specs.declared.event.KeepAnswer.{KeepAnswer}
 use Rattle.memo_core.specs.declared.event.KeepAnswer.TheVariants.{Stored, Found, Clash as KeepClash}
-use Rattle.memo_core.specs.Machine.{replayed, after_event, start, find_id, names, has_digest, when}
+use Rattle.memo_core.specs.Machine.{replayed, start, find_id, names, has_digest}
 use Rattle.memo_core.specs.History.{held, how_many, gives_pin, is_release, says}
 use Rattle.memo_core.proofs.Lists.{RisingIds, find_id-above, has_digest-found, how_many-push}
 use Rattle.memo_core.proofs.Invariant.{Fits-replayed, replayed-push, when_some, and_true, second_true}

@@ -1,5 +1,5 @@
 -- What a turn's reply says of its call.
-use Rattle.std.proofs.Common.{◌≡◌, ◌≢◌, ℕ, ◌<◌, List, [], ◌++◌, length, get_or, set, Some, Ok, Err, refl, sym, ap, subst, ◌∙◌, arith, append-nil}
+use Rattle.std.proofs.Common.{◌≡◌, ℕ, ◌<◌, List, [], length, Ok, Err, refl, sym, ap, subst, ◌∙◌, arith, append-nil}
 use lib.Seq.{set-get_or}
 use Rattle.memo_core.specs.declared.event.Event.{Event}
 use Rattle.memo_core.specs.declared.event.Event.TheVariants.{Look, Keep, Release, Sweep}

@@ -1,5 +1,5 @@
 -- A turn at one of a caller's passes.
-use Rattle.std.proofs.Common.{◌≡◌, ℕ, zero, suc, ◌<◌, ◌≤◌, List, [], ◌∷◌, length, get_or, set, map, Some, Ok, Err, Result, IfOk, IfErr, slice_get, All, refl, sym, ap, subst, ◌∙◌, arith}
+use Rattle.std.proofs.Common.{◌≡◌, ℕ, zero, suc, ◌<◌, List, [], ◌∷◌, length, get_or, set, map, Some, Ok, Err, Result, IfOk, IfErr, slice_get, All, refl, sym, ap, subst, ◌∙◌, arith}
 use lib.Seq.{map-set, map-set_same}
 use Rattle.turn_lock.specs.declared.knowledge.Known.{Known}
 use Rattle.turn_lock.specs.declared.tokens.Turned.{Turned}
@@ -16,7 +16,7 @@ use Rattle.memo_server.specs.Turns.{May, Answered}
 use Rattle.pin_table.specs.Views.{ShardKnown, CallerView, known_of, PassFits}
 use Rattle.pin_table.specs.Known.{AtShard, CallerFits, KnownFits, known_at, WornOut}
 use Rattle.pin_table.specs.Answers.{MayAsk, TookTurn, RefusedTurn}
-use Rattle.pin_table.proofs.Places.{same_some, read-at, same-at, at-get, get-at, get-same, all-at, map-get, length-mapped}
+use Rattle.pin_table.proofs.Places.{same_some, read-at, same-at, get-at, all-at, map-get, length-mapped}
 use Rattle.pin_table.proofs.Gains.{went, worn, known-fits, may-release}
 
 -- What a caller with these passes is seen as.

@@ -1,6 +1,6 @@
 -- What the calls of a memo answer, and what their caller knows then.
 use Rattle.std.specs.Prelude.{◌≡◌, ◌≢◌, ℕ, ◌<◌, List, length}
-use Rattle.memo_core.specs.declared.event.Event.TheVariants.{Look, Keep, Release, Sweep}
+use Rattle.memo_core.specs.declared.event.Event.TheVariants.{Look, Keep}
 use Rattle.memo_core.specs.declared.event.LookAnswer.TheVariants.{Hit as HitAnswer, Absent as AbsentAnswer, Clash as ClashAnswer}
 use Rattle.memo_core.specs.declared.event.KeepAnswer.TheVariants.{Stored as StoredAnswer, Found as FoundAnswer, Clash as KeepClashAnswer}
 use Rattle.memo_core.specs.History.{held}
@@ -18,8 +18,8 @@ use Rattle.pin_table.specs.declared.answers.Kept.{Kept}
 use Rattle.pin_table.specs.declared.answers.Kept.TheVariants.{Stored, Found, Clash as KeepClash}
 use Rattle.pin_table.specs.declared.answers.MemoFault.{MemoFault}
 use Rattle.pin_table.specs.declared.answers.MemoFault.TheVariants.{Worn, Mem}
-use Rattle.pin_table.specs.Views.{ShardKnown, CallerView, PinView}
-use Rattle.pin_table.specs.Known.{Gained, Missed, WornOut, AtShard, known_at}
+use Rattle.pin_table.specs.Views.{ShardKnown, CallerView}
+use Rattle.pin_table.specs.Known.{Gained, Missed, WornOut, AtShard}
 use Rattle.pin_table.specs.Placing.{shard_at}
 
 -- A fault at a shard: its lock was worn, or memory was wanting.

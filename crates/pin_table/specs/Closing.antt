@@ -1,5 +1,5 @@
 -- The steps of a close.
-use Rattle.std.specs.Prelude.{◌≡◌, ℕ, ◌-◌, List, [], ◌∷◌, ◌++◌, length, slice_get, Some}
+use Rattle.std.specs.Prelude.{◌≡◌, ℕ, List, [], ◌∷◌, ◌++◌, length, slice_get, Some}
 use Rattle.turn_lock.specs.Views.{LockView, PassView}
 use Rattle.memo_server.specs.declared.turn.Turn.{Turn}
 use Rattle.memo_server.specs.Shards.{ShardView}

@@ -1,7 +1,6 @@
 -- The pins that an object holds, against what its caller holds.
 use Rattle.std.specs.Prelude.{◌≡◌, ℕ, ◌+◌, ◌≤◌, ◌==◌, ◌&&◌, Bool, true, List, [], ◌∷◌, ◌++◌, length, map}
 use Rattle.std.specs.List.{list_any}
-use Rattle.atomic_table.specs.Seated.{TableId}
 use Rattle.memo_core.specs.declared.event.Event.{Event}
 use Rattle.memo_core.specs.History.{how_many, says}
 use Rattle.memo_server.specs.Callers.{gives}

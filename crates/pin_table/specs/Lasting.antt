@@ -1,5 +1,5 @@
 -- What a caller may count on from turn to turn.
-use Rattle.std.specs.Prelude.{◌≡◌, ◌≢◌, ℕ, ◌+◌, ◌<◌, ◌==◌, true, false, if◌then◌else◌, List, ◌++◌, Some}
+use Rattle.std.specs.Prelude.{◌≡◌, ◌≢◌, ℕ, ◌+◌, ◌<◌, ◌==◌, true, false, if◌then◌else◌, List, Some}
 use Rattle.std.specs.List.{list_any}
 use Rattle.memo_core.specs.declared.entries.CoreEntry.{CoreEntry}
 use Rattle.memo_core.specs.declared.state.CoreState.{CoreState}

@@ -1,5 +1,5 @@
 -- What the words of the command line ask for, and what they are refused for.
-use Rattle.std.specs.Prelude.{◌≡◌, ◌≤◌, ℕ, Bool, true, false, ◌&&◌, if◌then◌else◌, nat_le, List, codes, bytes_eq, Option, option_map, Result, Ok, Err}
+use Rattle.std.specs.Prelude.{◌≤◌, ℕ, Bool, true, false, ◌&&◌, if◌then◌else◌, nat_le, List, codes, bytes_eq, Option, option_map, Result, Ok, Err}
 use Rattle.std.specs.declared.option.Option.TheVariants.{Some, None}
 use Rattle.definitions.specs.Numbers.{is_number, digits_value}
 use Rattle.record_text.specs.declared.kind.Kind.{Kind}

@@ -1,5 +1,5 @@
 -- What the adapters over real readers and writers are seen as, and which bytes they hand on.
-use Rattle.std.specs.Prelude.{◌≡◌, ℕ, List, take, Result, MatchResult, Option}
+use Rattle.std.specs.Prelude.{ℕ, List, take, Result, MatchResult, Option}
 use Rattle.std.specs.Io.KnownBytes.{Appends}
 
 -- how often the adapter failed, and the bytes that its reader has left or its writer holds, where they are known

@@ -1,4 +1,4 @@
-use Rattle.std.proofs.Common.{◌≡◌, ◌<◌, ◌≤◌, ◌+◌, ◌-◌, length, take, get_or, ap, ◌∙◌, arith}
+use Rattle.std.proofs.Common.{◌≡◌, ◌<◌, ◌+◌, ◌-◌, length, take, get_or, ap, ◌∙◌, arith}
 use Rattle.chunk_store.specs.Files.{all_chunks}
 use Rattle.chunk_store.proofs.Ends.{ends_length, end_at}
 use Rattle.chunk_store.proofs.file_list.file_begin.Goals as goal

@@ -1,4 +1,4 @@
-use Rattle.std.proofs.Common.{◌≡◌, ℕ, List, leb, sym, subst, arith, rules}
+use Rattle.std.proofs.Common.{ℕ, List, leb, sym, subst, arith, rules}
 use Rattle.std.specs.List.Sorted.{IsPartitionedBy}
 use Rattle.std.proofs.lemmas.List.Sorted.{IsPartitionPoint-from_clause}
 use Rattle.chunk_store.proofs.Ends.{ends_parted, chunk_file}

@@ -1,9 +1,9 @@
-use Rattle.std.proofs.Common.{◌≡◌, ◌<◌, ◌≤◌, ℕ, List, length, get_or, refl, sym, ap, ◌∙◌, arith, rules}
+use Rattle.std.proofs.Common.{◌≡◌, ◌<◌, length, sym, ap, ◌∙◌, arith, rules}
 use Rattle.std.specs.Ordering.{is_lt}
 use Rattle.std.proofs.lemmas.List.Sorted.{IsPartitionPoint-from_clause}
 use Rattle.std.proofs.lemmas.List.{get_or_read}
 use Rattle.record_text.specs.Names.{name_cmp}
-use Rattle.chunk_store.specs.Files.{File, IsAt, IsGap}
+use Rattle.chunk_store.specs.Files.{File}
 use Rattle.chunk_store.proofs.Shelves.{parted, at_place, gap_place}
 use Rattle.chunk_store.proofs.file_list.find_file.Goals as goal
 

@@ -1,5 +1,4 @@
-use Rattle.std.proofs.Common.{◌≡◌, ◌<◌, ◌≤◌, ◌+◌, ◌-◌, ◌++◌, ℕ, List, length, take, drop, arith}
-use Rattle.definitions.specs.Records.{text_of}
+use Rattle.std.proofs.Common.{◌+◌, ◌-◌, arith}
 use Rattle.marker_chunker.specs.Cuts.{joined}
 use Rattle.chunk_store.proofs.Texts.{spliced_text, text_take, front_text, count_size}
 use Rattle.chunk_store.proofs.places.text_kept.Goals as goal

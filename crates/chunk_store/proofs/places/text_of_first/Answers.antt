@@ -1,5 +1,4 @@
-use Rattle.std.proofs.Common.{◌≡◌, ◌<◌, ◌≤◌, ◌+◌, length, take, ap, ◌∙◌, arith, get_or, []}
-use Rattle.definitions.specs.Records.{text_of}
+use Rattle.std.proofs.Common.{◌≡◌, ◌<◌, ◌+◌, length, ap, arith, get_or, []}
 use Rattle.chunk_store.proofs.Texts.{text_more, text_take}
 use Rattle.chunk_store.proofs.places.text_of_first.Goals as goal
 

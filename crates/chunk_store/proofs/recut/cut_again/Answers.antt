@@ -1,13 +1,9 @@
-use Rattle.std.proofs.Common.{rules, ◌≡◌, ◌<◌, ◌≤◌, ◌+◌, ◌-◌, ◌*◌, ◌++◌, ◌∷◌, [], ℕ, List, length, map, refl, sym, ap, subst, ◌∙◌, arith, get_or, Vec, Global, append_assoc, append-nil, take, drop, Some, None, Option, true, false, IfOk}
-use Rattle.definitions.specs.Records.{IsRecord, text_of}
-use Rattle.marker_chunker.specs.Cuts.{chunks_of, reach, first_or, joined, AreChunks, last_marks, ends_by}
-use Rattle.chunk_store.specs.Cutting.{Cutting, records_of, stops_at, closed, IsCutting}
-use Rattle.chunk_store.proofs.Cutting.{begins, grown, ended, ends_all, joined_closed, stops_is, apart}
+use Rattle.std.proofs.Common.{rules, ◌≡◌, ◌≤◌, ◌+◌, ◌-◌, ◌++◌, ◌∷◌, [], ℕ, List, ap, ◌∙◌, arith, take, drop, None}
+use Rattle.marker_chunker.specs.Cuts.{reach, first_or, joined}
+use Rattle.chunk_store.specs.Cutting.{records_of}
+use Rattle.chunk_store.proofs.Cutting.{begins}
 use Rattle.std.proofs.lemmas.List.{take_all}
-use Rattle.chunk_store.specs.Documents.{NoMeeting}
-use Rattle.chunk_store.proofs.Reaches.{reach_split, chunk_at, reach_more, first_at, stops_last, meets_more, reach_rises, reach_grows, reach_all, take_at_chunk, drop_at_chunk, drop_whole}
-use Rattle.marker_chunker.proofs.CutLaws.{not_empty}
-use Rattle.chunk_store.specs.Documents.{spliced, IsRecut}
+use Rattle.chunk_store.proofs.Reaches.{reach_grows}
 use Rattle.chunk_store.proofs.Splices.{news_is, least, ordered}
 use Rattle.chunk_store.proofs.Texts.{count_size}
 use Rattle.chunk_store.proofs.recut.cut_again.Goals as goal

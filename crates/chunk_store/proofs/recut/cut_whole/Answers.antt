@@ -1,6 +1,6 @@
-use Rattle.std.proofs.Common.{◌≡◌, ◌≤◌, ◌-◌, ◌++◌, ℕ, List, length, take, drop, true, None, sym, ap, ◌∙◌, arith}
+use Rattle.std.proofs.Common.{◌≡◌, ◌-◌, ◌++◌, take, drop, None, sym, ap, ◌∙◌, arith}
 use Rattle.std.proofs.lemmas.List.{take_all}
-use Rattle.marker_chunker.specs.Cuts.{joined, chunks_of, AreChunks}
+use Rattle.marker_chunker.specs.Cuts.{chunks_of, AreChunks}
 use Rattle.marker_chunker.proofs.CutLaws.{chunks_all}
 use Rattle.chunk_store.specs.Cutting.{Cutting, records_of}
 use Rattle.chunk_store.proofs.Cutting.{stops_at_end}

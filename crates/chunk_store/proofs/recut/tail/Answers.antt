@@ -1,12 +1,8 @@
-use Rattle.std.proofs.Common.{rules, ◌≡◌, ◌<◌, ◌≤◌, ◌+◌, ◌-◌, ◌*◌, ◌++◌, ◌∷◌, [], ℕ, List, length, map, refl, sym, ap, subst, ◌∙◌, arith, get_or, Vec, Global, below_more, append_assoc, append-nil, take, drop, Some, None, Option, true, false, IfOk}
-use Rattle.definitions.specs.Records.{IsRecord, text_of}
-use Rattle.marker_chunker.specs.Cuts.{chunks_of, reach, first_or, joined, AreChunks, last_marks, ends_by}
-use Rattle.chunk_store.specs.Cutting.{Cutting, records_of, stops_at, closed, IsCutting}
-use Rattle.chunk_store.proofs.Cutting.{begins, grown, ended, ends_all, joined_closed, stops_is, apart}
-use Rattle.std.proofs.lemmas.List.{get_or_read, take_all, drop_all, take_rest}
-use Rattle.chunk_store.specs.Documents.{NoMeeting}
-use Rattle.chunk_store.proofs.Reaches.{reach_split, chunk_at, reach_more, first_at, stops_last, meets_more, reach_rises, reach_all, take_at_chunk, drop_at_chunk, drop_whole, held}
-use Rattle.marker_chunker.proofs.CutLaws.{not_empty}
+use Rattle.std.proofs.Common.{rules, ◌≡◌, ◌<◌, ◌≤◌, ◌+◌, ◌-◌, ◌++◌, ◌∷◌, [], ℕ, List, length, ap, ◌∙◌, arith, get_or, below_more, append_assoc, take, drop, None}
+use Rattle.marker_chunker.specs.Cuts.{reach, joined}
+use Rattle.chunk_store.specs.Cutting.{records_of}
+use Rattle.std.proofs.lemmas.List.{get_or_read, take_rest}
+use Rattle.chunk_store.proofs.Reaches.{reach_more, reach_rises, drop_at_chunk, drop_whole, held}
 use Rattle.chunk_store.proofs.recut.tail.Goals as goal
 
 pub returns-then-spot-to-clause-records : goal.returns-then-spot-to-clause-records

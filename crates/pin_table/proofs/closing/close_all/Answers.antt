@@ -1,9 +1,7 @@
-use Rattle.std.proofs.Common.{rules, ◌≡◌, ℕ, zero, ◌+◌, ◌<◌, ◌≤◌, [], ◌∷◌, length, map, take, vec_len, vec_capacity, All, Some, None, List, slice_get, refl, ap, sym, subst, ◌∙◌, arith}
+use Rattle.std.proofs.Common.{rules, ◌≡◌, ℕ, ◌+◌, ◌≤◌, [], ◌∷◌, length, map, vec_len, vec_capacity, Some, None, List, slice_get, refl, ap, sym, subst, ◌∙◌, arith}
 use Rattle.std.proofs.lemmas.List.Elements.{All-pop}
 use Rattle.turn_lock.specs.Views.{LockView}
-use Rattle.pin_table.specs.Views.{CallerView}
 use Rattle.pin_table.specs.Ends.{ShardCloses}
-use Rattle.pin_table.specs.Closing.{AllClose}
 use Rattle.pin_table.proofs.Places.{length-mapped}
 use Rattle.pin_table.proofs.Handed.{Cuts, cuts-start, gives-lengths, some-left, locks-left, lock-there, cuts-left, passes-of, each-closes, all-locks}
 use Rattle.pin_table.proofs.closing.close_all.Goals as goal

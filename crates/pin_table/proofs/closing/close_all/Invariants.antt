@@ -1,4 +1,4 @@
-use Rattle.std.proofs.Common.{◌≡◌, ℕ, ◌+◌, ◌≤◌, [], take, length, map, All, Some, slice_get, vec_len, vec_capacity}
+use Rattle.std.proofs.Common.{◌≡◌, ℕ, ◌+◌, ◌≤◌, [], take, map, All, Some, slice_get, vec_len, vec_capacity}
 use Rattle.turn_lock.specs.Views.{LockView}
 use Rattle.memo_server.specs.Shards.{ShardView}
 use Rattle.pin_table.specs.Ends.{ShardCloses}

@@ -1,4 +1,4 @@
-use Rattle.std.proofs.Common.{◌≡◌, ◌+◌, ◌<◌, length, subst, ap, sym, ◌∙◌, arith}
+use Rattle.std.proofs.Common.{◌<◌, length, subst, sym, ◌∙◌, arith}
 use Rattle.pin_table.specs.Views.{CallerView}
 use Rattle.pin_table.proofs.Giving.{still, rest-more, gives-more}
 use Rattle.pin_table.proofs.closing.gather.Goals as goal

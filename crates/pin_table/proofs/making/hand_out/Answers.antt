@@ -1,7 +1,6 @@
 use Rattle.std.proofs.Common.{◌≡◌, ℕ, ◌+◌, ◌<◌, ◌++◌, length, set, map, take, drop, ap, sym, subst, ◌∙◌, arith}
-use Rattle.turn_lock.specs.Views.{PassView, unplayed}
-use Rattle.memo_server.specs.declared.turn.Turn.{Turn}
-use Rattle.pin_table.specs.Views.{CallerView, with_lock}
+use Rattle.turn_lock.specs.Views.{unplayed}
+use Rattle.pin_table.specs.Views.{with_lock}
 use Rattle.pin_table.proofs.Dealt.{last-pass, fresh-rest, locks-rest, lock-last, was-at, front-rest, one-more}
 use Rattle.pin_table.proofs.making.hand_out.Goals as goal
 

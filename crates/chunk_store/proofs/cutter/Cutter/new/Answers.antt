@@ -1,8 +1,5 @@
-use Rattle.std.proofs.Common.{rules, ◌≡◌, ◌<◌, ◌≤◌, ◌+◌, ◌*◌, ◌++◌, ◌∷◌, [], ℕ, List, length, map, refl, sym, ap, subst, ◌∙◌, arith, get_or, Vec, Global, append_assoc, append-nil, take, drop, Some, None, Option, true, false, IfOk}
-use Rattle.definitions.specs.Records.{IsRecord, text_of}
-use Rattle.marker_chunker.specs.Cuts.{first_or, joined, AreChunks, last_marks, ends_by}
-use Rattle.chunk_store.specs.Cutting.{Cutting, records_of, stops_at, closed, IsCutting}
-use Rattle.chunk_store.proofs.Cutting.{begins, grown, ended, ends_all, joined_closed, stops_is}
+use Rattle.std.proofs.Common.{rules, ◌∷◌, [], arith}
+use Rattle.chunk_store.proofs.Cutting.{begins}
 use Rattle.chunk_store.proofs.cutter.Cutter.new.Goals as goal
 
 pub invariant_of-result : goal.invariant_of-result

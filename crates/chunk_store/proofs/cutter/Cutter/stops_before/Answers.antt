@@ -1,9 +1,8 @@
-use Rattle.std.proofs.Common.{rules, ◌≡◌, ◌<◌, ◌≤◌, ◌+◌, ◌-◌, ◌*◌, ◌++◌, ◌∷◌, [], ℕ, List, length, map, refl, sym, ap, subst, ◌∙◌, arith, get_or, Vec, Global, append_assoc, append-nil, take, drop, Some, None, Option, true, false, IfOk}
-use Rattle.definitions.specs.Records.{IsRecord, text_of}
-use Rattle.marker_chunker.specs.Cuts.{chunks_of, reach, first_or, joined, AreChunks, last_marks, ends_by}
-use Rattle.chunk_store.specs.Cutting.{Cutting, records_of, stops_at, closed, IsCutting}
-use Rattle.chunk_store.proofs.Cutting.{begins, grown, ended, ends_all, joined_closed, stops_is, apart}
-use Rattle.std.proofs.Common.{Bool, cond, ◌||◌}
+use Rattle.std.proofs.Common.{rules, ◌≡◌, ◌+◌, ◌-◌, ◌++◌, ◌∷◌, [], length, sym, ap, subst, ◌∙◌, arith, true, false}
+use Rattle.marker_chunker.specs.Cuts.{chunks_of, reach, last_marks, ends_by}
+use Rattle.chunk_store.specs.Cutting.{Cutting, records_of}
+use Rattle.chunk_store.proofs.Cutting.{stops_is, apart}
+use Rattle.std.proofs.Common.{Bool}
 use Rattle.chunk_store.proofs.cutter.Cutter.stops_before.Goals as goal
 
 unmade : (b : Bool) → b ≡ true → b ≡ false → ⊥

@@ -1,4 +1,4 @@
-use Rattle.std.proofs.Common.{rules, ◌≡◌, ◌<◌, ◌≤◌, ◌+◌, ◌-◌, ◌++◌, ℕ, List, length, sym, ap, subst, ◌∙◌, arith, take, drop, None}
+use Rattle.std.proofs.Common.{rules, ◌≡◌, ◌≤◌, ◌+◌, ◌-◌, ◌++◌, ℕ, List, length, sym, ap, subst, ◌∙◌, arith, take, drop, None}
 use Rattle.definitions.specs.Records.{text_of}
 use Rattle.marker_chunker.specs.Cuts.{chunks_of, joined, AreChunks}
 use Rattle.marker_chunker.proofs.CutLaws.{chunks_are, joined_chunks}

@@ -1,9 +1,8 @@
 use Rattle.std.proofs.Common.{rules, ◌≡◌, ◌≢◌, ◌≤◌, ◌<◌, ◌+◌, ◌++◌, ◌∷◌, [], ℕ, List, length, take, drop, sym, ap, subst, ◌∙◌, arith}
-use Rattle.marker_chunker.specs.Cuts.{joined, chunks_of}
 use Rattle.chunk_store.specs.Documents.{text_size}
-use Rattle.chunk_store.specs.Files.{File, all_chunks, ends_of, file_at, with_file, IsGap}
+use Rattle.chunk_store.specs.Files.{File, all_chunks, with_file, IsGap}
 use Rattle.chunk_store.proofs.Ends.{ends_length}
-use Rattle.chunk_store.proofs.Together.{chunks_size, doc_size, split_gap, text_with, gap_none, gap_put, count_gap, before_gap, shelf_with}
+use Rattle.chunk_store.proofs.Together.{chunks_size, doc_size, split_gap, text_with, gap_put, count_gap, shelf_with}
 use Rattle.chunk_store.proofs.shelf.Shelf.add.Goals as goal
 
 pub file_begin-begin-requires : goal.file_begin-begin-requires

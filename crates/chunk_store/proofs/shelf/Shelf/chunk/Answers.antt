@@ -1,6 +1,6 @@
-use Rattle.std.proofs.Common.{◌≡◌, ◌<◌, ◌≤◌, ◌+◌, ◌-◌, [], List, length, take, get_or, sym, ap, subst, ◌∙◌, arith}
+use Rattle.std.proofs.Common.{◌≡◌, ◌<◌, ◌-◌, [], List, length, get_or, sym, ap, subst, ◌∙◌, arith}
 use Rattle.std.proofs.lemmas.List.{get_or_read}
-use Rattle.chunk_store.specs.Files.{File, all_chunks, ends_of}
+use Rattle.chunk_store.specs.Files.{File, all_chunks}
 use Rattle.chunk_store.proofs.Ends.{ends_length, count_more, chunk_in}
 use Rattle.chunk_store.proofs.shelf.Shelf.chunk.Goals as goal
 

@@ -1,5 +1,4 @@
-use Rattle.std.proofs.Common.{rules, ◌≡◌, ◌≤◌, List, length, take, ap, subst, ◌∙◌, arith}
-use Rattle.std.specs.Vec.{vec_len}
+use Rattle.std.proofs.Common.{rules, ◌≡◌, List, length, ap, subst, ◌∙◌, arith}
 use Rattle.chunk_store.specs.Files.{File, all_chunks}
 use Rattle.chunk_store.proofs.Ends.{ends_length, count_all}
 use Rattle.chunk_store.proofs.shelf.Shelf.chunk_count.Goals as goal

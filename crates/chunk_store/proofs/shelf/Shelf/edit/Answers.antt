@@ -1,10 +1,9 @@
-use Rattle.std.proofs.Common.{◌≡◌, ◌≢◌, ◌≤◌, ◌<◌, ◌+◌, ◌-◌, [], ℕ, List, length, sym, ap, subst, ◌∙◌, arith, Ok, Err, ◌⊎◌, inl, inr}
+use Rattle.std.proofs.Common.{◌≡◌, ◌<◌, ◌+◌, ◌-◌, [], ℕ, List, length, ap, subst, ◌∙◌, arith, Ok, Err, ◌⊎◌, inl, inr}
 use Rattle.std.proofs.lemmas.List.{get_or-set_same}
 use Rattle.definitions.specs.Records.{text_of}
 use Rattle.marker_chunker.specs.Cuts.{joined, chunks_of}
-use Rattle.chunk_store.specs.declared.change.Change.{Change}
 use Rattle.chunk_store.specs.Documents.{spliced, text_size, Answers, IsSplice}
-use Rattle.chunk_store.specs.Files.{File, all_chunks, chunks_before, edited, file_at, raised, with_file, IsAt, IsOneTooMany}
+use Rattle.chunk_store.specs.Files.{File, all_chunks, edited, file_at, raised, with_file, IsAt, IsOneTooMany}
 use Rattle.chunk_store.proofs.Ends.{ends_length}
 use Rattle.chunk_store.proofs.Together.{split_at, text_part, chunks_part, chunks_size, before_at}
 use Rattle.chunk_store.proofs.Refusals.{not_less, answers_map, text_is, text_cut, spliced_files, cut_is}

@@ -1,10 +1,10 @@
-use Rattle.std.proofs.Common.{◌≡◌, ◌≢◌, ◌≤◌, ◌<◌, ◌+◌, [], List, length, sym, ap, subst, ◌∙◌, arith, ℕ, Ok, Err, ◌⊎◌, inl, inr}
+use Rattle.std.proofs.Common.{◌≡◌, ◌<◌, ◌+◌, [], List, length, sym, ap, subst, ◌∙◌, arith, ℕ, Ok, Err, inl, inr}
 use Rattle.definitions.specs.Records.{text_of}
 use Rattle.marker_chunker.specs.Cuts.{joined, chunks_of}
 use Rattle.chunk_store.specs.Documents.{spliced, text_size, Answers, IsSplice}
-use Rattle.chunk_store.specs.Files.{File, all_chunks, file_at, with_file, IsOneTooMany}
+use Rattle.chunk_store.specs.Files.{File, all_chunks, file_at, IsOneTooMany}
 use Rattle.chunk_store.proofs.Together.{split_gap}
-use Rattle.chunk_store.proofs.Refusals.{not_less, not_true, answers_map, text_is, text_gap, text_cut, spliced_files, cut_is}
+use Rattle.chunk_store.proofs.Refusals.{not_less, not_true, answers_map, text_gap, text_cut, spliced_files, cut_is}
 use Rattle.chunk_store.proofs.shelf.Shelf.edit_new.Goals as goal
 
 pub returns-in-Err-clause-answers : goal.returns-in-Err-clause-answers

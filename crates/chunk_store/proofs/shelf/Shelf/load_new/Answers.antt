@@ -1,10 +1,10 @@
-use Rattle.std.proofs.Common.{◌≡◌, ◌≢◌, ◌≤◌, ◌<◌, ◌+◌, [], List, length, sym, ap, subst, ◌∙◌, arith, ℕ, Err}
+use Rattle.std.proofs.Common.{◌≡◌, ◌≢◌, ◌≤◌, ◌+◌, [], List, length, sym, ap, subst, ◌∙◌, arith, ℕ, Err}
 use Rattle.definitions.specs.Records.{text_of}
-use Rattle.marker_chunker.specs.Cuts.{joined, chunks_of}
+use Rattle.marker_chunker.specs.Cuts.{chunks_of}
 use Rattle.chunk_store.specs.Documents.{text_size, IsSplice, IsWhole}
-use Rattle.chunk_store.specs.Files.{File, all_chunks, file_at, with_file, IsOneTooMany}
+use Rattle.chunk_store.specs.Files.{File, all_chunks, IsOneTooMany}
 use Rattle.chunk_store.proofs.Together.{split_gap, whole_splice}
-use Rattle.chunk_store.proofs.Refusals.{not_less, not_true, answers_map, text_is, text_gap, text_cut, spliced_files, cut_is, chunks_none}
+use Rattle.chunk_store.proofs.Refusals.{not_less, not_true, answers_map, text_gap, text_cut, spliced_files, cut_is, chunks_none}
 use Rattle.chunk_store.proofs.shelf.Shelf.load_new.Goals as goal
 
 pub returns-in-Err-clause-answers : goal.returns-in-Err-clause-answers

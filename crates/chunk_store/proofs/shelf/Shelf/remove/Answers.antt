@@ -1,8 +1,7 @@
-use Rattle.std.proofs.Common.{◌≡◌, ◌≤◌, ◌<◌, ◌+◌, ◌-◌, [], ℕ, List, length, refl, sym, ap, subst, ◌∙◌, arith}
-use Rattle.marker_chunker.specs.Cuts.{chunks_of}
+use Rattle.std.proofs.Common.{◌≡◌, ◌+◌, ◌-◌, [], ℕ, List, length, refl, sym, ap, subst, ◌∙◌, arith}
 use Rattle.chunk_store.specs.declared.change.Change.{Change}
 use Rattle.chunk_store.specs.Documents.{text_size, IsSplice}
-use Rattle.chunk_store.specs.Files.{File, all_chunks, chunks_before, file_at, raised, with_file, IsAt, IsGap}
+use Rattle.chunk_store.specs.Files.{File, all_chunks, chunks_before, file_at, with_file, IsAt, IsGap}
 use Rattle.chunk_store.proofs.Ends.{ends_length}
 use Rattle.chunk_store.proofs.Together.{split_at, split_gap, text_part, text_with, chunks_part, chunks_size, whole_splice, before_at, before_gap, at_with}
 use Rattle.chunk_store.proofs.Refusals.{chunks_none, spliced_files, splice_still}

@@ -1,4 +1,4 @@
-use Rattle.std.proofs.Common.{◌≡◌, subst}
+use Rattle.std.proofs.Common.{subst}
 use Rattle.pin_table.specs.Views.{CallerView}
 use Rattle.pin_table.specs.Closing.{GivesOne}
 use Rattle.pin_table.proofs.Turns.{caller_of_passes}

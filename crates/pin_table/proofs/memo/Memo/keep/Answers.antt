@@ -1,7 +1,7 @@
-use Rattle.std.proofs.Common.{◌≡◌, ◌<◌, length, ap, sym, subst, ◌∙◌}
+use Rattle.std.proofs.Common.{length, ap, sym, ◌∙◌}
 use Rattle.memo_server.specs.declared.answers.ShardKeep.TheVariants.{Stored, Found, Clash}
 use Rattle.pin_table.specs.Placing.{shard_at}
-use Rattle.pin_table.proofs.Replies.{placed, keep-answered, keep-missed, worn-at}
+use Rattle.pin_table.proofs.Replies.{placed, keep-answered, keep-missed}
 use Rattle.pin_table.proofs.memo.Memo.keep.Goals as goal
 
 pub returns-in-Ok-Keep-Ok-Stored-clause-kept : goal.returns-in-Ok-Keep-Ok-Stored-clause-kept

@@ -1,8 +1,8 @@
-use Rattle.std.proofs.Common.{◌≡◌, ◌<◌, length, ap, sym, subst, ◌∙◌}
+use Rattle.std.proofs.Common.{◌<◌, length, ap, sym, subst, ◌∙◌}
 use Rattle.memo_server.specs.declared.answers.ShardLook.TheVariants.{Hit, Absent, Clash}
 use Rattle.pin_table.specs.Known.{AtShard, Missed}
 use Rattle.pin_table.specs.Placing.{shard_at}
-use Rattle.pin_table.proofs.Replies.{placed, missed-none, look-answered, look-missed, worn-at}
+use Rattle.pin_table.proofs.Replies.{placed, missed-none, look-answered, look-missed}
 use Rattle.pin_table.proofs.memo.Memo.look.Goals as goal
 
 pub returns-in-Err-clause-fault : goal.returns-in-Err-clause-fault

@@ -1,8 +1,8 @@
-use Rattle.std.proofs.Common.{◌≡◌, ℕ, ◌<◌, length, ap, sym, subst, ◌∙◌}
+use Rattle.std.proofs.Common.{ℕ, ◌<◌, length, ap, sym, subst, ◌∙◌}
 use Rattle.memo_core.specs.History.{held}
 use Rattle.pin_table.specs.Views.{PinView}
-use Rattle.pin_table.specs.Known.{known_at, held_at}
-use Rattle.pin_table.proofs.Replies.{held-inside, released}
+use Rattle.pin_table.specs.Known.{held_at}
+use Rattle.pin_table.proofs.Replies.{held-inside}
 use Rattle.pin_table.proofs.memo.Memo.release.Goals as goal
 
 pub turn-requires-clause-shard : goal.turn-requires-clause-shard

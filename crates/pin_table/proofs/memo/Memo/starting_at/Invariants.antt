@@ -1,4 +1,4 @@
-use Rattle.std.proofs.Common.{◌≡◌, All, length, map, vec_len, vec_capacity}
+use Rattle.std.proofs.Common.{◌≡◌, All, map, vec_len, vec_capacity}
 use Rattle.pin_table.specs.Ends.{AreNewcomers}
 use Rattle.pin_table.proofs.memo.Memo.starting_at.Given as goal
 

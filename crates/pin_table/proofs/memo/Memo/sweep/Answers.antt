@@ -1,4 +1,4 @@
-use Rattle.std.proofs.Common.{◌≡◌, refl}
+use Rattle.std.proofs.Common.{refl}
 use Rattle.pin_table.proofs.Replies.{swept, sweep-missed}
 use Rattle.pin_table.proofs.memo.Memo.sweep.Goals as goal
 

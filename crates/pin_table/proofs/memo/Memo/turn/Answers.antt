@@ -1,4 +1,4 @@
-use Rattle.std.proofs.Common.{◌≡◌, ℕ, ◌<◌, length, set, IfOk, IfErr, ap, sym, subst, ◌∙◌}
+use Rattle.std.proofs.Common.{◌<◌, length, set, IfOk, IfErr, ap, sym, subst, ◌∙◌}
 use Rattle.pin_table.specs.Views.{MemoView, CallerView}
 use Rattle.pin_table.specs.Known.{AtShard, known_at}
 use Rattle.pin_table.specs.Answers.{MayAsk, TookTurn, RefusedTurn}

@@ -1,5 +1,5 @@
-use Rattle.std.proofs.Common.{◌≡◌, ◌++◌, ◌∷◌, [], List, ap, sym, subst, ◌∙◌}
-use Rattle.pin_table.specs.Views.{CallerView, PinView}
+use Rattle.std.proofs.Common.{◌∷◌, [], List, sym, subst}
+use Rattle.pin_table.specs.Views.{PinView}
 use Rattle.pin_table.specs.Covers.{Covered, names_of}
 use Rattle.pin_table.specs.declared.answers.Kept.TheVariants.{Stored, Found, Clash}
 use Rattle.pin_table.proofs.Covering.{keeps, faults, covered-same, covered-push, covered-kept}

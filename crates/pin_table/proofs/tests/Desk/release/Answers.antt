@@ -1,5 +1,5 @@
-use Rattle.std.proofs.Common.{◌≡◌, ◌++◌, ◌∷◌, [], List, refl, ap, sym, subst, ◌∙◌}
-use Rattle.pin_table.specs.Views.{CallerView, PinView}
+use Rattle.std.proofs.Common.{◌++◌, ◌∷◌, [], refl, sym, subst}
+use Rattle.pin_table.specs.Views.{PinView}
 use Rattle.pin_table.specs.Covers.{Covered, names_of}
 use Rattle.pin_table.specs.Covers.{name_of}
 use Rattle.pin_table.proofs.Covering.{covered-pop, last-own, last-held, last-released, last-stays, covered-push}

@@ -1,6 +1,5 @@
-use Rattle.std.proofs.Common.{◌≡◌, ◌++◌, ◌∷◌, [], List, ap, sym, subst, ◌∙◌}
-use Rattle.pin_table.specs.Views.{CallerView, PinView}
-use Rattle.pin_table.specs.Covers.{Covered, names_of}
+use Rattle.std.proofs.Common.{◌∷◌, []}
+use Rattle.pin_table.specs.Covers.{names_of}
 use Rattle.pin_table.proofs.Covering.{sweeps, faults, covered-same}
 use Rattle.pin_table.proofs.tests.Desk.sweep.Goals as goal
 

@@ -1,4 +1,4 @@
-use Rattle.std.proofs.Common.{◌≡◌, ◌+◌, ◌≤◌, ℕ, List, [], ◌++◌, length, take, arith, ◌∙◌, subst, ap, sym}
+use Rattle.std.proofs.Common.{◌≡◌, ◌+◌, ◌≤◌, ℕ, List, [], ◌++◌, length, take, arith, ◌∙◌, subst, ap}
 use Rattle.std.proofs.Math.Seq.{take-length}
 use Rattle.definitions.specs.Outside.{Told}
 use Rattle.record_text.proofs.ReadLaws.{uses_more, uses_filled, sound_filled, line_more}
