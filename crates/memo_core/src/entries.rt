@@ -13,7 +13,7 @@ pub struct CoreEntry {
     pub id: u64,
     /// The digest of its input.
     pub digest: [u8; 32],
-    /// The last run in which it was stored, hit or found.
+    /// The greatest run in which it was stored, hit or found.
     pub used: u64,
     /// The callers that hold it.
     pub pins: Pins,
