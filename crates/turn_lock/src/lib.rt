@@ -2,7 +2,7 @@
 //!
 //! Start with [`Turns`], the state behind the lock, and [`TurnLock::turn`]. Each holder has a [`Pass`], whose view is what
 //! its holder knows: the history up to its last turn, and its own entries in it.
-//! A turn costs four atomic steps where nobody waits. Memory is taken in `new` and `starting_at` alone.
+//! A turn costs five atomic steps where nobody waits. Memory is taken in `new` and `starting_at` alone.
 //! Nothing is promised of fairness, or that a turn ever comes.
 #![tactic(auto)]
 
