@@ -1,5 +1,5 @@
 // Numbers in scripts.
-ghost use Rattle.std.specs.Prelude.{◌≡◌, ◌≤◌, length, take, decimal, IsTrue, SomeIff};
+ghost use Rattle.std.specs.Prelude.{◌≡◌, ◌≤◌, length, take, drop, decimal, IsTrue, SomeIff};
 ghost use Rattle.definitions.specs.Numbers.{is_number, digits_value};
 
 use itoa::Buffer;
@@ -24,10 +24,12 @@ pub fn parse_number(bytes: &[u8]) -> Option<u32>
     u32::try_from(value).ok()
 }
 
-/// Writes the decimal digits of a number at the front of a buffer, and answers how many there are.
+/// Writes the decimal digits of a number at the front of a buffer, and answers how many there are. What stands behind
+/// them stays.
 pub fn print_number(n: u64, into: &mut [u8; 20]) -> usize
     ensures digits { take result into.new ≡ decimal n }
     ensures count { result ≡ length (decimal n) }
+    ensures behind { drop result into.new ≡ drop result into.old }
 {
     let mut buffer = Buffer::new();
     let digits = buffer.format(n).as_bytes();
