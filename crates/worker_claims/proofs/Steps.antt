@@ -11,7 +11,7 @@ use Rattle.atomic_table.proofs.Lists.{at_set, set_here, set_else}
 use Rattle.worker_claims.specs.declared.knowledge.View.{View}
 use Rattle.worker_claims.specs.declared.knowledge.Doing.{Doing}
 use Rattle.worker_claims.specs.declared.knowledge.Doing.TheVariants.{Spent, Free, Held, Ended}
-use Rattle.worker_claims.specs.Rule.{total, Live, one_if, in_hand, comers, at_work, has_given, has, parts, rest_of, InDoing, SeatFits, Claimed, Kept, claimed, gave}
+use Rattle.worker_claims.specs.Rule.{total, Live, one_if, in_hand, comers, at_work, has_given, has, parts, rest_of, InDoing, SeatFits, Claimed, Kept, IsAbove, claimed, gave}
 use Rattle.worker_claims.specs.Views.{HandView}
 use Rattle.worker_claims.specs.Hands.{AllWorked, times, times_by}
 use Rattle.worker_claims.proofs.Lists.{at_length, one_of, total_set, total_snoc, total_le, total_append, there, at_first, at_second, at_end}
@@ -141,6 +141,14 @@ module _ {T : Type 0} (tasks : List T) (hands : ℕ) where
   word_of : (s : S) (r : K s) → get_or s.words 0 0 ≡ r.word
   word_of s r = ap (λ (l : List ℕ). get_or l 0 0) r.words_are
 
+  -- what a view gave was claimed before
+  above : (s : S) (r : K s) (id : ℕ) (v : View T) → get_elem? s.views id ≡ some v → IsAbove v.given r.word
+  above s r id v at i k t here = dite (dec_lt k r.word)
+      (λ lt. lt)
+      (λ ge. let z = r.unclaimed k (omega arith) in let a = one_of (has k) s.views id v at in
+      let b = one_of (λ (g : ℕ × T). one_if k g.0) v.given i (k, t) here in let y = one_same k k refl in
+      let c : ℕ = total (λ (g : ℕ × T). one_if k g.0) v.given in let d : ℕ = in_hand k v.doing in absurd (omega arith))
+
   pub claims : (slots id : ℕ) (me : M) → me.0.doing ≡ Free → Allows K slots id me 0 (λ n. (n + 1) % 2 ^ 64) (claimed (step slots 0 1 0 none) me)
   claims slots id me free s r long at _ =
       let v : View T = me.0 in let n : ℕ = get_or s.words 0 0 in let t : ℕ = r.word in let is : n ≡ t = word_of s r in
@@ -150,6 +158,7 @@ module _ {T : Type 0} (tasks : List T) (hands : ℕ) where
       let words : set s.words 0 ((n + 1) % 2 ^ 64) ≡ (t + 1) ∷ [] = ap₂ (λ (l : List ℕ) (m : ℕ). set l 0 m) r.words_are next in
       let there_rest : rest_of v ≡ v.parts = ap (comers v.parts) free in let some_part = f.some_part in
       let same_length : length v.tasks ≡ length tasks = ap length f.tasks_are in
+      let rises : IsAbove v.given n = subst (IsAbove v.given) (sym is) (above s r id v at) in
       dite (dec_lt n (length v.tasks))
       (λ lt. let got = there v.tasks n lt in let x : T = got.0 in let w : View T = at_work (Held n) v in
       let at_n : get_elem? tasks n ≡ some x = ap (λ (l : List T). get_elem? l n) (sym f.tasks_are) ∙ got.1 in
@@ -177,7 +186,7 @@ module _ {T : Type 0} (tasks : List T) (hands : ℕ) where
         takes n (Some x),
         home,
         moved s r id v w (t + 1) (set s.homes n none) live o (set s.words 0 ((n + 1) % 2 ^ 64)) words,
-        ((λ _. (x, got.1, refl)), (λ ge. absurd (omega arith))),
+        ((λ _. (x, got.1, refl)), (λ ge. absurd (omega arith)), rises),
       ))
       (λ ge. let w : View T = at_work (Ended n) v in
       let hand : (k : ℕ) → has k w ≡ has k v = λ k. let z : in_hand k v.doing ≡ 0 = ap (in_hand k) free in omega arith in
@@ -195,7 +204,7 @@ module _ {T : Type 0} (tasks : List T) (hands : ℕ) where
         once = (λ k. let h = hand k in let q = r.once k in let a : ℕ = has k w in let b : ℕ = has k v in let c : ℕ = total (has k) s.views in omega arith);
         unclaimed = (λ k le. hand k);
       } in
-      (w, keeps, tt, moved s r id v w (t + 1) s.homes live o (set s.words 0 ((n + 1) % 2 ^ 64)) words, ((λ lt. absurd (ge lt)), (λ _. refl))))
+      (w, keeps, tt, moved s r id v w (t + 1) s.homes live o (set s.words 0 ((n + 1) % 2 ^ 64)) words, ((λ lt. absurd (ge lt)), (λ _. refl), rises)))
 
   pub gives_back : (slots id : ℕ) (me : M) (k : ℕ) (t : T) → me.0.doing ≡ Held k → me.1 ≡ (k, Some t) ∷ [] → Allows K slots id me 0 (λ n. n) (gave (step slots 0 0 0 none) me)
   gives_back slots id me k t held holds s r long at _ =

@@ -120,10 +120,15 @@ module _ {T : Type 0} where
     pub once : (k : ℕ) → total (has k) s.views ≤ 1
     pub unclaimed : (k : ℕ) → word ≤ k → total (has k) s.views ≡ 0
 
+  -- the number is greater than each number that was given
+  abbrev pub IsAbove : List (ℕ × T) → ℕ → Type 0
+  IsAbove given n = (i k : ℕ) (t : T) → get_elem? given i ≡ some (k, t) → k < n
+
   -- what the steps tell: the seat before, the number found, the seat after
   abbrev pub claimed : Step (Option T) → Me (Option T) (View T) → ℕ → Me (Option T) (View T) → Type 0
   claimed st m r n = (r < length m.0.tasks → (x : T) × (get_elem? m.0.tasks r ≡ some x) × (n ≡ (at_work (Held r) m.0, (r, Some x) ∷ m.1)))
       × (length m.0.tasks ≤ r → n ≡ (at_work (Ended r) m.0, m.1))
+      × IsAbove m.0.given r
 
   abbrev pub gave : Step (Option T) → Me (Option T) (View T) → ℕ → Me (Option T) (View T) → Type 0
   gave st m r n = (k : ℕ) (t : T) → m.0.doing ≡ Held k → m.1 ≡ (k, Some t) ∷ [] → n ≡ (has_given k t m.0, [])

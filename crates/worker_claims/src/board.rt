@@ -1,7 +1,7 @@
 //! Claiming a task and giving it back.
-ghost use Rattle.std.specs.Prelude.{◌≡◌, ℕ, [], ◌∷◌, ◌++◌, Some, None};
+ghost use Rattle.std.specs.Prelude.{◌≡◌, ℕ, [], ◌∷◌, ◌++◌, Some, None, IfSome};
 ghost use Rattle.worker_claims.specs.declared.knowledge.Doing.TheVariants.{Free, Held};
-ghost use Rattle.worker_claims.specs.Rule.{has_given};
+ghost use Rattle.worker_claims.specs.Rule.{has_given, IsAbove};
 ghost use Rattle.worker_claims.specs.Hands.{IsHandOf, HoldsNone, IsClaim};
 
 use crate::knowledge::View;
@@ -11,13 +11,14 @@ use atomic_table::Seat;
 
 impl<T> Board<T> {
     /// The next task with its number, or `None` where all were claimed, or where this hand has had `None` before.
-    /// It waits for nobody and takes no memory.
+    /// A hand's numbers rise. It waits for nobody and takes no memory.
     pub fn claim(&self, hand: &mut Hand<T>) -> Option<(u64, T)>
         requires of { IsHandOf self.now hand.old }
         requires idle { HoldsNone hand.old.doing }
         ensures of { IsHandOf self.now hand.new }
         ensures task { IsClaim self.now.tasks hand.old.doing hand.new.doing result }
         ensures given { hand.new.given ≡ hand.old.given }
+        ensures rises { IfSome result (λ claim. IsAbove hand.old.given claim.0) }
     {
         if hand.done {
             return None;
