@@ -1,5 +1,5 @@
 -- The table of a window: it grows leaf by leaf, has a row for each key, and gives the piece of a run.
-use Rattle.std.proofs.Common.{◌≡◌, ◌<◌, ℕ, zero, suc, ◌+◌, Bool, true, false, ◌||◌, List, [], ◌∷◌, ◌++◌, length, take, refl, sym, ap, ◌∙◌, arith, append-nil, append_assoc, All, is_some, cond}
+use Rattle.std.proofs.Common.{◌≡◌, ◌<◌, ◌≤◌, ℕ, zero, suc, ◌+◌, Bool, true, false, ◌||◌, List, [], ◌∷◌, ◌++◌, length, take, refl, sym, ap, ◌∙◌, arith, append-nil, append_assoc, length-append, All, is_some, cond}
 use Rattle.std.specs.Prelude.{Option, IsTrue, slice_index_or}
 use Rattle.std.specs.declared.option.Option.TheVariants.{Some, None}
 use Rattle.std.specs.List.{list_any}
@@ -21,6 +21,21 @@ pub joined_more : (leaves : List Leaf) (i : ℕ) (d : Leaf) → i < length leave
 joined_more [] i d h = absurd (omega arith)
 joined_more (leaf ∷ leaves) zero d h = append-nil leaf
 joined_more (leaf ∷ leaves) (suc i) d h = ap (λ k. joined (take k (leaf ∷ leaves))) {y = suc (i + 1)} (omega arith) ∙ ap (λ (x : Leaf). leaf ++ x) (joined_more leaves i d (omega arith)) ∙ sym (append_assoc leaf (joined (take i leaves)) (slice_index_or leaves i d))
+
+-- how many records the leaves have with one leaf more
+pub size_more : (leaves : List Leaf) (i : ℕ) (d : Leaf) → i < length leaves → length (joined (take (i + 1) leaves)) ≡ length (joined (take i leaves)) + length (slice_index_or leaves i d)
+size_more leaves i d within = ap (λ (x : Leaf). length x) (joined_more leaves i d within) ∙ length-append (joined (take i leaves)) (slice_index_or leaves i d)
+
+-- some leaves have no more records than all
+pub size_within : (leaves : List Leaf) (i : ℕ) → length (joined (take i leaves)) ≤ length (joined leaves)
+size_within [] zero = omega arith
+size_within [] (suc i) = omega arith
+size_within (leaf ∷ leaves) zero = omega arith
+size_within (leaf ∷ leaves) (suc i) =
+    let rest = size_within leaves i in
+    let some = length-append leaf (joined (take i leaves)) in
+    let all = length-append leaf (joined leaves) in
+    omega (arith, rest, some, all)
 
 module _ {V : Type 0} (join : V → V → V) where
   eq_itself : (k : List ℕ) → eq_by_cmp key_cmp k k ≡ true

@@ -7,7 +7,7 @@ ghost use Rattle.window_manager.specs.Windows.{present};
 ghost use Rattle.slider_session.specs.Output.{meaning, header, piece};
 ghost use Rattle.slider_session.specs.Accepted.{AllAccepted, HoldsAccepted};
 ghost use Rattle.slider_session.specs.Serving.{FitsMeters};
-ghost use Rattle.slider_session.specs.Meters.{MetersRose};
+ghost use Rattle.slider_session.specs.Meters.{MetersRose, WorkedWithin};
 
 use job_laws::{Job, MeterRow};
 use record_text::Records;
@@ -31,6 +31,7 @@ pub fn piece_of<J: Job>(
     ensures piece { IfOk result (λ bytes. bytes.items ≡ piece (meaning (J.accepts (J.setting job.now)) (J.emits (J.setting job.now)) (J.joined (J.setting job.now)) (J.text (J.setting job.now))) run window.now.window) }
     ensures meters { FitsMeters meters.new.lanes.items meters.new.parts.items }
     ensures counted { MetersRose J.Meter.maps J.Meter.merges J.Meter.joins meters.old.lanes.items meters.old.parts.items meters.new.lanes.items meters.new.parts.items }
+    ensures worked { WorkedWithin J.Meter.maps J.Meter.merges (length (present window.now.window)) (length window.now.window.leaves) meters.old.lanes.items meters.old.parts.items meters.new.lanes.items meters.new.parts.items }
 {
     let roots = roots_of_leaves(alloc, job, parts, window, meters)?;
     let mut lines = Vec::new(alloc);
@@ -62,6 +63,7 @@ fn roots_of_leaves<J: Job>(
     ensures roots { IfOk result (λ roots. AreSheets (J.setting job.now) parts (table_of (J.joined (J.setting job.now)) (pairs_of (J.emits (J.setting job.now)) (present window.now.window))) roots.items) }
     ensures meters { FitsMeters meters.new.lanes.items meters.new.parts.items }
     ensures counted { MetersRose J.Meter.maps J.Meter.merges J.Meter.joins meters.old.lanes.items meters.old.parts.items meters.new.lanes.items meters.new.parts.items }
+    ensures worked { WorkedWithin J.Meter.maps J.Meter.merges (length (present window.now.window)) (length window.now.window.leaves) meters.old.lanes.items meters.old.parts.items meters.new.lanes.items meters.new.parts.items }
 {
     let none = Records::new(alloc);
     let mut roots = map_sheets(alloc, job, &none, parts, &mut meters.lanes[0])?;
@@ -92,6 +94,7 @@ fn with_leaf<J: Job>(
     ensures roots { (t : List (List ℕ × J.Val)) → AreSheets (J.setting job.now) parts t roots.now → IfOk result (λ more. AreSheets (J.setting job.now) parts (merged (J.joined (J.setting job.now)) t (table_of (J.joined (J.setting job.now)) (pairs_of (J.emits (J.setting job.now)) leaf.now))) more.items) }
     ensures meters { FitsMeters meters.new.lanes.items meters.new.parts.items }
     ensures counted { MetersRose J.Meter.maps J.Meter.merges J.Meter.joins meters.old.lanes.items meters.old.parts.items meters.new.lanes.items meters.new.parts.items }
+    ensures worked { WorkedWithin J.Meter.maps J.Meter.merges (length leaf.now) 1 meters.old.lanes.items meters.old.parts.items meters.new.lanes.items meters.new.parts.items }
 {
     let mapped = map_sheets(alloc, job, leaf, parts, &mut meters.lanes[0])?;
     let mut both = Vec::new(alloc);

@@ -1,13 +1,14 @@
 // One script's window and its runs.
-ghost use Rattle.std.specs.Prelude.{◌≡◌, ◌<◌, ◌≤◌, ◌^◌, ℕ, List, IfOk, IsErrOf};
+ghost use Rattle.std.specs.Prelude.{◌≡◌, ◌<◌, ◌≤◌, ◌^◌, ℕ, List, length, IfOk, IsErrOf};
 ghost use Rattle.definitions.specs.Outside.{Rose};
 ghost use Rattle.record_text.specs.declared.command.Command.TheVariants.{Run};
+ghost use Rattle.window_manager.specs.Windows.{present};
 ghost use Rattle.window_manager.specs.Views.{no_leaves};
 ghost use Rattle.slider_session.specs.Output.{meaning};
 ghost use Rattle.slider_session.specs.Settings.{AreWithin};
-ghost use Rattle.slider_session.specs.Calls.{Held, accepted_of, Changes, Answers, Steps};
+ghost use Rattle.slider_session.specs.Calls.{Held, state_of, accepted_of, Changes, Answers, Steps};
 ghost use Rattle.slider_session.specs.Serving.{IsOfScript, FitsMeters, RefusalIs};
-ghost use Rattle.slider_session.specs.Meters.{MetersRose};
+ghost use Rattle.slider_session.specs.Meters.{MetersRose, WorkedWithin};
 
 use crate::answering::piece_of;
 use crate::{Halt, Settings};
@@ -82,6 +83,7 @@ impl<J: Job> Session<J> {
         ensures failed { IsErrOf result Halt.Write → Rose (K.faults out.old) (K.faults out.new) }
         ensures meters { FitsMeters meters.new.lanes.items meters.new.parts.items }
         ensures counted { MetersRose J.Meter.maps J.Meter.merges J.Meter.joins meters.old.lanes.items meters.old.parts.items meters.new.lanes.items meters.new.parts.items }
+        ensures worked { WorkedWithin J.Meter.maps J.Meter.merges (length (present (state_of self.old))) (length (state_of self.old).leaves) meters.old.lanes.items meters.old.parts.items meters.new.lanes.items meters.new.parts.items }
     {
         match c {
             Command::Run => self.answer(alloc, out, meters),
@@ -117,6 +119,7 @@ impl<J: Job> Session<J> {
         ensures failed { IsErrOf result Halt.Write → Rose (K.faults out.old) (K.faults out.new) }
         ensures meters { FitsMeters meters.new.lanes.items meters.new.parts.items }
         ensures counted { MetersRose J.Meter.maps J.Meter.merges J.Meter.joins meters.old.lanes.items meters.old.parts.items meters.new.lanes.items meters.new.parts.items }
+        ensures worked { WorkedWithin J.Meter.maps J.Meter.merges (length (present (state_of self.old))) (length (state_of self.old).leaves) meters.old.lanes.items meters.old.parts.items meters.new.lanes.items meters.new.parts.items }
     {
         let run = self.runs + 1;
         let bytes = match piece_of(
