@@ -68,6 +68,7 @@ fn serve_script<J: Job, S: Source, K: Sink, E: Sink>(
     ensures answered { Answered (meaning (J.accepts (J.setting job)) (J.emits (J.setting job)) (J.joined (J.setting job)) (J.text (J.setting job))) (empty_window kind settings.places)
         record { left = S.left source.old; held = K.held out.old; said = E.held err.old; source_faults = S.faults source.old; out_faults = K.faults out.old; err_faults = E.faults err.old }
         record { left = S.left source.new; held = K.held out.new; said = E.held err.new; source_faults = S.faults source.new; out_faults = K.faults out.new; err_faults = E.faults err.new } result }
+    ensures quiet { (result ≡ 3 → ⊥) → (result ≡ 6 → ⊥) → err.new ≡ err.old }
     ensures meters { FitsMeters meters.new.lanes.items meters.new.parts.items }
     ensures counted { MetersRose J.Meter.maps J.Meter.merges J.Meter.joins meters.old.lanes.items meters.old.parts.items meters.new.lanes.items meters.new.parts.items }
 {
@@ -130,6 +131,7 @@ fn run_job<J: Job, S: Source, K: Sink, E: Sink>(
         record { left = S.left source.old; held = K.held out.old; said = E.held err.old; source_faults = S.faults source.old; out_faults = K.faults out.old; err_faults = E.faults err.old }
         record { left = S.left source.new; held = K.held out.new; said = E.held err.new; source_faults = S.faults source.new; out_faults = K.faults out.new; err_faults = E.faults err.new } result }
     ensures untouched { IsSome plan.seed → (source.new ≡ source.old) × (err.new ≡ err.old) }
+    ensures quiet { (result ≡ 3 → ⊥) → (result ≡ 6 → ⊥) → err.new ≡ err.old }
     ensures meters { FitsMeters meters.new.lanes.items meters.new.parts.items }
     ensures counted { MetersRose J.Meter.maps J.Meter.merges J.Meter.joins meters.old.lanes.items meters.old.parts.items meters.new.lanes.items meters.new.parts.items }
 {
@@ -163,6 +165,7 @@ fn run_plan<S: Source, K: Sink, E: Sink, B: JobSet>(
         record { left = S.left source.old; held = K.held out.old; said = E.held err.old; source_faults = S.faults source.old; out_faults = K.faults out.old; err_faults = E.faults err.old }
         record { left = S.left source.new; held = K.held out.new; said = E.held err.new; source_faults = S.faults source.new; out_faults = K.faults out.new; err_faults = E.faults err.new } result }
     ensures untouched { IsSome plan.seed → (source.new ≡ source.old) × (err.new ≡ err.old) }
+    ensures quiet { (result ≡ 3 → ⊥) → (result ≡ 6 → ⊥) → err.new ≡ err.old }
     ensures meters { FitsMeters meters.new.lanes.items meters.new.parts.items }
     ensures counted { MetersRose B.Meter.maps B.Meter.merges B.Meter.joins meters.old.lanes.items meters.old.parts.items meters.new.lanes.items meters.new.parts.items }
 {
@@ -203,6 +206,7 @@ pub fn run_program<Q: Threads + Wait + Sync, S: Source, K: Sink, E: Sink, B: Job
         record { left = S.left source.old; held = K.held out.old; said = E.held err.old; source_faults = S.faults source.old; out_faults = K.faults out.old; err_faults = E.faults err.old }
         record { left = S.left source.new; held = K.held out.new; said = E.held err.new; source_faults = S.faults source.new; out_faults = K.faults out.new; err_faults = E.faults err.new } result }
     ensures generated { (plan : Plan) → plan_of (map string_bytes words.now) ≡ Ok plan → IsSome plan.seed → (source.new ≡ source.old) × (err.new ≡ err.old) }
+    ensures quiet { (plan : Plan) → plan_of (map string_bytes words.now) ≡ Ok plan → (result ≡ 3 → ⊥) → (result ≡ 6 → ⊥) → err.new ≡ err.old }
     ensures meters { FitsMeters meters.new.lanes.items meters.new.parts.items }
     ensures counted { MetersRose B.Meter.maps B.Meter.merges B.Meter.joins meters.old.lanes.items meters.old.parts.items meters.new.lanes.items meters.new.parts.items }
 {
