@@ -28,7 +28,7 @@ fn halt_of(fault: ScriptFault) -> Halt
 }
 
 /// Serves the script that a source has left, from the empty window of a kind on: each command is carried out before the
-/// next one is read, so each run is answered before the reader takes more than its line. It stops at the script's first
+/// next one is read, so each run is answered before more is asked of the source. It stops at the script's first
 /// fault, at a failure of the source or of the sink, or for want of memory.
 pub fn serve<J: Job, S: Source, K: Sink>(
     alloc: Global,
