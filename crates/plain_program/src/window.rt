@@ -3,7 +3,7 @@ ghost use Rattle.std.specs.Prelude.{◌≡◌, IfOk};
 ghost use Rattle.window_manager.specs.Windows.{empty_window};
 
 use record_text::{Kind, Name, Records};
-use std::alloc::{AllocError, Global};
+use std::alloc::Global;
 use std::marker::Model;
 
 /// A file of a document: its name, and its records in chunks.

@@ -9,7 +9,7 @@ ghost use Rattle.program_words.specs.Options.{slider_app};
 use crate::plan::{Field, Plan, Values, plan_by};
 use crate::scan::are_well_formed;
 use crate::usage::WordsFault;
-use clap::{Arg, ArgMatches, Command, Error};
+use clap::{Arg, Command, Error};
 use std::alloc::{AllocError, Global};
 
 /// An option that takes one value.

@@ -1,5 +1,4 @@
 //! What a hand knows. These types are for the proofs alone: no value of them is ever made.
-use std::alloc::Global;
 use std::collections::LinkedList;
 
 /// What a hand is doing.
