@@ -31,6 +31,10 @@ module _ {T : Type 0} where
   abbrev pub AllReady : (ℕ → T → Type 0) → List T → Type 0
   AllReady ready tasks = (k : ℕ) (x : T) → get_elem? tasks k ≡ some x → ready k x
 
+  -- the gate was passed for the task of this number, and the task was worked
+  abbrev pub gated : (ℕ → Type 0) → (ℕ → T → T → Type 0) → ℕ → T → T → Type 0
+  gated passed works k x y = passed k × works k x y
+
   -- each that was given was worked from the task of its number
   abbrev pub AllWorked : (ℕ → T → T → Type 0) → List T → List (ℕ × T) → Type 0
   AllWorked works tasks given = (i k : ℕ) (t : T) → get_elem? given i ≡ some (k, t) → (x : T) × (get_elem? tasks k ≡ some x) × works k x t

@@ -49,6 +49,8 @@ struct Waits {
 }
 
 impl Gate for Waits {
+    ghost passed = { λ gate task. Unit {0} };
+
     fn pass(&self, task: u64) {
         self.comers.fetch_add(1, Ordering::SeqCst);
         if task == 1 {

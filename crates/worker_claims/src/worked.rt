@@ -1,7 +1,7 @@
 //! All tasks, worked by several threads.
 ghost use Rattle.std.specs.Prelude.{◌≡◌, ◌<◌, ◌≤◌, ◌^◌, [], length, vec_len, IfOk, IfErr, All};
 ghost use Rattle.worker_claims.specs.declared.knowledge.Doing.TheVariants.{Free};
-ghost use Rattle.worker_claims.specs.Hands.{IsHandOf, HasEnded, AllWorked, AllReady, IsWorked};
+ghost use Rattle.worker_claims.specs.Hands.{IsHandOf, HasEnded, AllWorked, AllReady, IsWorked, gated};
 
 use crate::tokens::{Board, Hand};
 use crate::work::Worker;
@@ -24,7 +24,7 @@ fn work_hand<T, G: Gate, W: Worker<T>, R: Threads + Wait + Sync>(
     requires ready { AllReady (W.ready worker.now) board.now.tasks }
     ensures of { IsHandOf board.now hand.new }
     ensures ended { HasEnded hand.new.doing }
-    ensures worked { AllWorked (W.works worker.now) board.now.tasks hand.new.given }
+    ensures worked { AllWorked (gated (G.passed gate.now) (W.works worker.now)) board.now.tasks hand.new.given }
 {
     'claims: for _ in rt.forever() {
         let Some((number, mut task)) = board.claim(hand) else {
@@ -48,7 +48,7 @@ fn work_hands<T: Send, G: Gate, W: Worker<T>, R: Threads + Wait + Sync>(
     requires some { 0 < length hands.old }
     requires fresh { All (λ h. IsHandOf board.now h × (h.doing ≡ Free) × (h.given ≡ [])) hands.old }
     requires ready { AllReady (W.ready worker.now) board.now.tasks }
-    ensures { All (λ h. IsHandOf board.now h × HasEnded h.doing × AllWorked (W.works worker.now) board.now.tasks h.given) hands.new }
+    ensures { All (λ h. IsHandOf board.now h × HasEnded h.doing × AllWorked (gated (G.passed gate.now) (W.works worker.now)) board.now.tasks h.given) hands.new }
 {
     let threads = hands.len();
     thread::for_each_mut(
@@ -57,7 +57,7 @@ fn work_hands<T: Send, G: Gate, W: Worker<T>, R: Threads + Wait + Sync>(
         threads,
         &|_, hand: &mut Hand<T>|
             requires { IsHandOf board.now hand.now × (hand.now.doing ≡ Free) × (hand.now.given ≡ []) × AllReady (W.ready worker.now) board.now.tasks }
-            ensures { IsHandOf board.entry.now hand.exit.now × HasEnded hand.exit.now.doing × AllWorked (W.works worker.entry.now) board.entry.now.tasks hand.exit.now.given }
+            ensures { IsHandOf board.entry.now hand.exit.now × HasEnded hand.exit.now.doing × AllWorked (gated (G.passed gate.entry.now) (W.works worker.entry.now)) board.entry.now.tasks hand.exit.now.given }
         { work_hand(rt, board, hand, gate, worker) },
     );
 }
@@ -79,7 +79,7 @@ pub fn work_all<T: Send + Drop, G: Gate, W: Worker<T>, R: Threads + Wait + Sync>
     requires tasks { vec_len tasks < 2 ^ 32 }
     requires hands { (0 < hands) × (hands ≤ 16) }
     requires ready { AllReady (W.ready worker.now) tasks.items }
-    ensures worked { IfOk result (λ done. IsWorked (W.works worker.now) tasks.items done.items) }
+    ensures worked { IfOk result (λ done. IsWorked (gated (G.passed gate.now) (W.works worker.now)) tasks.items done.items) }
     ensures err { IfErr result (λ e. e.1.items ≡ tasks.items) }
 {
     let (board, mut hands) = Board::new(alloc, tasks, hands)?;
