@@ -1,5 +1,5 @@
 -- Callers that give their last passes.
-use Rattle.std.proofs.Common.{◌≡◌, ℕ, suc, ◌+◌, ◌<◌, List, [], ◌∷◌, ◌++◌, length, get_or, set, map, take, drop, slice_get, All, refl, sym, ap, ◌∙◌, arith, add-one}
+use Rattle.std.proofs.Common.{◌≡◌, ℕ, suc, ◌+◌, ◌<◌, List, [], ◌∷◌, ◌++◌, length, get_or, set, map, take, drop, slice_get, All, refl, sym, ap, ◌∙◌, add-one}
 use Rattle.turn_lock.specs.Views.{PassView}
 use Rattle.memo_server.specs.declared.turn.Turn.{Turn}
 use Rattle.pin_table.specs.Views.{CallerView, known_of, PassFits}

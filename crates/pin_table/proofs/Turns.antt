@@ -1,5 +1,5 @@
 -- A turn at one of a caller's passes.
-use Rattle.std.proofs.Common.{◌≡◌, ℕ, zero, suc, ◌<◌, List, [], ◌∷◌, length, get_or, set, map, Some, Ok, Err, Result, IfOk, IfErr, slice_get, All, refl, sym, ap, subst, ◌∙◌, arith}
+use Rattle.std.proofs.Common.{◌≡◌, ℕ, zero, suc, ◌<◌, List, [], ◌∷◌, length, get_or, set, map, Some, Ok, Err, Result, IfOk, IfErr, slice_get, All, refl, sym, ap, subst, ◌∙◌}
 use lib.Seq.{map-set, map-set_same}
 use Rattle.turn_lock.specs.declared.knowledge.Known.{Known}
 use Rattle.turn_lock.specs.declared.tokens.Turned.{Turned}

@@ -1,4 +1,4 @@
-use Rattle.std.proofs.Common.{rules, ◌≡◌, ◌<◌, ◌+◌, ◌-◌, ◌∷◌, [], length, ap, ◌∙◌, arith, get_or, take}
+use Rattle.std.proofs.Common.{◌≡◌, ◌<◌, ◌+◌, ◌-◌, ◌∷◌, [], length, ap, ◌∙◌, arith, get_or, take}
 use Rattle.definitions.specs.Records.{text_of}
 use Rattle.std.proofs.lemmas.List.{get_or_read}
 use Rattle.chunk_store.proofs.Reaches.{reach_more}

@@ -1,4 +1,4 @@
-use Rattle.std.proofs.Common.{rules, ◌≡◌, ◌≤◌, ◌-◌, ◌∷◌, [], arith, take}
+use Rattle.std.proofs.Common.{◌≡◌, ◌≤◌, ◌-◌, take}
 use Rattle.marker_chunker.specs.Cuts.{reach}
 use Rattle.chunk_store.specs.Documents.{text_size}
 use Rattle.chunk_store.proofs.places.find.Given as goal

@@ -1,4 +1,4 @@
-use Rattle.std.proofs.Common.{rules, ◌≡◌, ◌≤◌, ◌+◌, ◌-◌, ◌++◌, ◌∷◌, [], ℕ, List, ap, ◌∙◌, arith, take, drop, None}
+use Rattle.std.proofs.Common.{◌≡◌, ◌≤◌, ◌+◌, ◌-◌, ◌++◌, ℕ, List, ap, ◌∙◌, arith, take, drop, None}
 use Rattle.marker_chunker.specs.Cuts.{reach, first_or, joined}
 use Rattle.chunk_store.specs.Cutting.{records_of}
 use Rattle.chunk_store.proofs.Cutting.{begins}

@@ -1,4 +1,4 @@
-use Rattle.std.proofs.Common.{rules, ◌≡◌, ◌<◌, ◌+◌, ◌-◌, ◌++◌, ◌∷◌, [], ℕ, List, length, ap, ◌∙◌, arith, get_or, take}
+use Rattle.std.proofs.Common.{◌≡◌, ◌<◌, ◌+◌, ◌-◌, ◌++◌, ◌∷◌, [], ℕ, List, length, ap, ◌∙◌, arith, get_or, take}
 use Rattle.marker_chunker.specs.Cuts.{reach, joined}
 use Rattle.chunk_store.specs.Cutting.{Cutting, records_of}
 use Rattle.std.proofs.lemmas.List.{get_or_read}

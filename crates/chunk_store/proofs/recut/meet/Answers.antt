@@ -1,4 +1,4 @@
-use Rattle.std.proofs.Common.{rules, ◌≡◌, ◌<◌, ◌+◌, ◌-◌, ◌++◌, ◌∷◌, [], ℕ, List, length, sym, ap, subst, ◌∙◌, arith, get_or, append_assoc, take, drop, None, true, false}
+use Rattle.std.proofs.Common.{◌≡◌, ◌<◌, ◌+◌, ◌-◌, ◌++◌, ◌∷◌, [], ℕ, List, length, sym, ap, subst, ◌∙◌, arith, get_or, append_assoc, take, drop, None, true, false}
 use Rattle.marker_chunker.specs.Cuts.{chunks_of, reach, joined}
 use Rattle.chunk_store.specs.Cutting.{records_of}
 use Rattle.chunk_store.proofs.Cutting.{apart}

@@ -1,4 +1,4 @@
-use Rattle.std.proofs.Common.{rules, ◌≡◌, ◌≤◌, ◌+◌, ◌-◌, ◌++◌, ◌∷◌, [], length, arith, drop}
+use Rattle.std.proofs.Common.{◌≡◌, ◌≤◌, ◌+◌, ◌-◌, ◌++◌, length, drop}
 use Rattle.marker_chunker.specs.Cuts.{chunks_of, joined}
 use Rattle.chunk_store.specs.Cutting.{records_of}
 use Rattle.chunk_store.specs.Documents.{NoMeeting}

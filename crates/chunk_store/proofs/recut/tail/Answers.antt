@@ -1,4 +1,4 @@
-use Rattle.std.proofs.Common.{rules, ◌≡◌, ◌<◌, ◌≤◌, ◌+◌, ◌-◌, ◌++◌, ◌∷◌, [], ℕ, List, length, ap, ◌∙◌, arith, get_or, below_more, append_assoc, take, drop, None}
+use Rattle.std.proofs.Common.{◌≡◌, ◌<◌, ◌≤◌, ◌+◌, ◌-◌, ◌++◌, ◌∷◌, [], ℕ, List, length, ap, ◌∙◌, arith, get_or, below_more, append_assoc, take, drop, None}
 use Rattle.marker_chunker.specs.Cuts.{reach, joined}
 use Rattle.chunk_store.specs.Cutting.{records_of}
 use Rattle.std.proofs.lemmas.List.{get_or_read, take_rest}

@@ -1,4 +1,4 @@
-use Rattle.std.proofs.Common.{rules, ◌≡◌, ◌∷◌, [], sym, ap, subst, ◌∙◌, arith, true}
+use Rattle.std.proofs.Common.{◌≡◌, sym, ap, subst, ◌∙◌, true}
 use Rattle.marker_chunker.specs.Cuts.{joined, AreChunks}
 use Rattle.chunk_store.specs.Cutting.{Cutting, stops_at}
 use Rattle.chunk_store.proofs.Cutting.{ends_all, joined_closed}

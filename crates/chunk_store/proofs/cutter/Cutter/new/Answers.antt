@@ -1,4 +1,3 @@
-use Rattle.std.proofs.Common.{rules, ◌∷◌, [], arith}
 use Rattle.chunk_store.proofs.Cutting.{begins}
 use Rattle.chunk_store.proofs.cutter.Cutter.new.Goals as goal
 

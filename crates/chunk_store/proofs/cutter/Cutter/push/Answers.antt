@@ -1,4 +1,4 @@
-use Rattle.std.proofs.Common.{rules, ◌≡◌, ◌+◌, ◌++◌, ◌∷◌, [], ℕ, List, sym, ap, subst, ◌∙◌, arith, Some, true, false}
+use Rattle.std.proofs.Common.{◌≡◌, ◌+◌, ◌++◌, ◌∷◌, [], ℕ, List, sym, ap, subst, ◌∙◌, arith, Some, true, false}
 use Rattle.chunk_store.specs.Cutting.{Cutting, stops_at}
 use Rattle.chunk_store.proofs.Cutting.{grown, ended, joined_closed}
 use Rattle.chunk_store.proofs.Texts.{length_size}

@@ -1,4 +1,4 @@
-use Rattle.std.proofs.Common.{rules, ◌≡◌, ◌+◌, ◌-◌, ◌++◌, ◌∷◌, [], length, sym, ap, subst, ◌∙◌, arith, true, false}
+use Rattle.std.proofs.Common.{◌≡◌, ◌+◌, ◌-◌, ◌++◌, ◌∷◌, length, sym, ap, subst, ◌∙◌, arith, true, false}
 use Rattle.marker_chunker.specs.Cuts.{chunks_of, reach, last_marks, ends_by}
 use Rattle.chunk_store.specs.Cutting.{Cutting, records_of}
 use Rattle.chunk_store.proofs.Cutting.{stops_is, apart}

@@ -1,4 +1,4 @@
-use Rattle.std.proofs.Common.{rules, ◌≡◌, ◌≢◌, ◌≤◌, ◌<◌, ◌+◌, ◌++◌, ◌∷◌, [], ℕ, List, length, take, drop, sym, ap, subst, ◌∙◌, arith}
+use Rattle.std.proofs.Common.{◌≡◌, ◌≢◌, ◌≤◌, ◌<◌, ◌+◌, ◌++◌, ◌∷◌, [], ℕ, List, length, take, drop, sym, ap, subst, ◌∙◌, arith}
 use Rattle.chunk_store.specs.Documents.{text_size}
 use Rattle.chunk_store.specs.Files.{File, all_chunks, with_file, IsGap}
 use Rattle.chunk_store.proofs.Ends.{ends_length}

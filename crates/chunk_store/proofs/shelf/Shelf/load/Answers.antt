@@ -1,4 +1,4 @@
-use Rattle.std.proofs.Common.{◌≡◌, ◌<◌, ◌+◌, ◌-◌, [], ℕ, List, length, ap, subst, ◌∙◌, arith, Err}
+use Rattle.std.proofs.Common.{◌≡◌, ◌<◌, ◌+◌, ◌-◌, ℕ, List, length, ap, subst, ◌∙◌, arith, Err}
 use Rattle.std.proofs.lemmas.List.{get_or-set_same}
 use Rattle.definitions.specs.Records.{text_of}
 use Rattle.marker_chunker.specs.Cuts.{chunks_of}

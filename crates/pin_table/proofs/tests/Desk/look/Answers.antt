@@ -1,4 +1,4 @@
-use Rattle.std.proofs.Common.{◌∷◌, [], List, sym, subst}
+use Rattle.std.proofs.Common.{List, sym, subst}
 use Rattle.pin_table.specs.Views.{PinView}
 use Rattle.pin_table.specs.Covers.{Covered, names_of}
 use Rattle.pin_table.specs.declared.answers.Looked.TheVariants.{Hit, Absent, Clash}

@@ -1,4 +1,3 @@
-use Rattle.std.proofs.Common.{◌∷◌, []}
 use Rattle.pin_table.specs.Covers.{names_of}
 use Rattle.pin_table.proofs.Covering.{sweeps, faults, covered-same}
 use Rattle.pin_table.proofs.tests.Desk.sweep.Goals as goal
