@@ -6,31 +6,31 @@ use Rattle.chunk_store.specs.declared.change.Change.{Change}
 use Rattle.chunk_store.specs.declared.change.EditFault.{EditFault}
 use Rattle.chunk_store.specs.declared.change.EditFault.TheVariants.{TooMany, WindowLarge, Mem}
 
--- the records with `del` of them from place `at` on replaced
+-- The records with `del` of them from place `at` on replaced.
 abbrev pub spliced : ℕ → ℕ → List (List ℕ) → List (List ℕ) → List (List ℕ)
 spliced at del ins rs = take at rs ++ (ins ++ drop (at + del) rs)
 
--- how many bytes of text the records of these chunks have
+-- How many bytes of text the records of these chunks have.
 abbrev pub text_size : List (List (List ℕ)) → ℕ
 text_size cs = length (text_of (joined cs))
 
--- which answer comes, where `many` and `large` say what is refused: `TooMany` goes before `WindowLarge`, and want of
--- memory alone is free
+-- Which answer comes, where `many` and `large` say what is refused: `TooMany` goes before `WindowLarge`, and want of
+-- memory alone is free.
 abbrev pub Answers : Type 0 → Type 0 → Result Change EditFault → Type 0
 Answers many large (Ok change) = (many → ⊥) × (large → ⊥)
 Answers many large (Err TooMany) = many
 Answers many large (Err WindowLarge) = (many → ⊥) × large
 Answers many large (Err Mem) = (many → ⊥) × (large → ⊥)
 
--- the chunks before the changed ones and those behind them are the ones that stood
+-- The chunks before the changed ones and those behind them are the ones that stood.
 pub record IsSplice (olds news : List (List (List ℕ))) (change : Change) : Type 0 where
   pub within : change.first + change.gone ≤ length olds
   pub fits : change.first + change.fresh ≤ length news
   pub before : take change.first news ≡ take change.first olds
   pub behind : drop (change.first + change.fresh) news ≡ drop (change.first + change.gone) olds
 
--- what an edit changes in the chunks: `first` old ones stand before the one that holds record `at - 1`; `gone` is the
--- least number with which the old chunks reach as far as the edit, to a place where new chunks end too, `fresh` of them
+-- What an edit changes in the chunks: `first` old ones stand before the one that holds record `at - 1`; `gone` is the
+-- least number with which the old chunks reach as far as the edit, to a place where new chunks end too, `fresh` of them.
 pub record IsChange (at del : ℕ) (ins : List (List ℕ)) (olds news : List (List (List ℕ))) (change : Change) : Type 0 where
   pub begins : at ≡ 0 → change.first ≡ 0
   pub holds : 0 < at → (reach change.first olds < at) × (at ≤ reach (change.first + 1) olds)
@@ -38,15 +38,15 @@ pub record IsChange (at del : ℕ) (ins : List (List ℕ)) (olds news : List (Li
   pub meets : reach (change.first + change.fresh) news + del ≡ reach (change.first + change.gone) olds + length ins
   pub least : (g q : ℕ) → g < change.gone → at + del ≤ reach (change.first + g) olds → reach q news + del ≡ reach (change.first + g) olds + length ins → ⊥
 
--- all old chunks became all new ones, where so many chunks of others stand before
+-- All old chunks became all new ones, where so many chunks of others stand before.
 abbrev pub IsWhole : ℕ → List (List (List ℕ)) → List (List (List ℕ)) → Change → Type 0
 IsWhole before olds news change = (change.first ≡ before) × (change.gone ≡ length olds) × (change.fresh ≡ length news)
 
--- none of the old chunks `from` to `last` begins where a new one does; the new records have `size` more than the old ones before
+-- None of the old chunks `from` to `last` begins where a new one does; the new records have `size` more than the old ones before.
 abbrev pub NoMeeting : List (List (List ℕ)) → ℕ → ℕ → List (List (List ℕ)) → ℕ → Type 0
 NoMeeting olds from last news size = (g q : ℕ) → from ≤ g → g < last → reach q news + reach from olds ≡ size + reach g olds → ⊥
 
--- which old chunks were cut again, from `first` to `last`
+-- Which old chunks were cut again, from `first` to `last`.
 pub record IsRecut (at del : ℕ) (ins : List (List ℕ)) (olds news : List (List (List ℕ))) (first last : ℕ) : Type 0 where
   pub begins : at ≡ 0 → first ≡ 0
   pub holds : 0 < at → (reach first olds < at) × (at ≤ reach (first + 1) olds)

@@ -8,78 +8,78 @@ use Rattle.marker_chunker.specs.Cuts.{joined, chunks_of}
 use Rattle.chunk_store.specs.declared.change.Change.{Change}
 use Rattle.chunk_store.specs.Documents.{spliced, text_size, IsChange, IsWhole}
 
--- a name with the chunks of its document
+-- A name with the chunks of its document.
 abbrev pub File : Type 0
 File = List ℕ × List (List (List ℕ))
 
--- the name comes before those of all these files
+-- The name comes before those of all these files.
 abbrev pub IsBelow : List ℕ → List File → Type 0
 IsBelow name [] = Unit {0}
 IsBelow name (f ∷ fs) = (name_cmp name f.0 ≡ Less) × IsBelow name fs
 
--- the names rise bytewise
+-- The names rise bytewise.
 abbrev pub HasRisingNames : List File → Type 0
 HasRisingNames [] = Unit {0}
 HasRisingNames (f ∷ fs) = IsBelow f.0 fs × HasRisingNames fs
 
--- each file has records, cut from nothing
+-- Each file has records, cut from nothing.
 abbrev pub HasDocuments : List File → Type 0
 HasDocuments [] = Unit {0}
 HasDocuments (f ∷ fs) = (f.1 ≢ []) × (f.1 ≡ chunks_of (joined f.1)) × HasDocuments fs
 
--- the files with smaller names
+-- The files with smaller names.
 abbrev pub smaller : List ℕ → List File → List File
 smaller name files = filter (λ f. is_lt (name_cmp f.0 name)) files
 
--- the files with greater names
+-- The files with greater names.
 abbrev pub greater : List ℕ → List File → List File
 greater name files = filter (λ f. is_lt (name_cmp name f.0)) files
 
--- the chunks of the file with this name; a file that is not in the list has none
+-- The chunks of the file with this name; a file that is not in the list has none.
 abbrev pub file_at : List ℕ → List File → List (List (List ℕ))
 file_at name [] = []
 file_at name (f ∷ fs) = cond (eq_by_cmp name_cmp name f.0) f.1 (file_at name fs)
 
--- a file with these chunks; without chunks it is no file
+-- A file with these chunks; without chunks it is no file.
 abbrev pub file_of : List ℕ → List (List (List ℕ)) → List File
 file_of name [] = []
 file_of name (c ∷ cs) = (name, c ∷ cs) ∷ []
 
--- the files, with these chunks under this name
+-- The files, with these chunks under this name.
 abbrev pub with_file : List ℕ → List (List (List ℕ)) → List File → List File
 with_file name chunks files = smaller name files ++ (file_of name chunks ++ greater name files)
 
--- the chunks of all files, in the order of their names
+-- The chunks of all files, in the order of their names.
 abbrev pub all_chunks : List File → List (List (List ℕ))
 all_chunks [] = []
 all_chunks (f ∷ fs) = f.1 ++ all_chunks fs
 
--- how many chunks the files with smaller names have
+-- How many chunks the files with smaller names have.
 abbrev pub chunks_before : List ℕ → List File → ℕ
 chunks_before name files = length (all_chunks (smaller name files))
 
--- the change of one file, as one of all chunks where so many stand before the file
+-- The change of one file, as one of all chunks where so many stand before the file.
 abbrev pub raised : ℕ → Change → Change
 raised before change = record { first = before + change.first; gone = change.gone; fresh = change.fresh }
 
--- these records would make the file with this name one too many
+-- These records would make the file with this name one too many.
 abbrev pub IsOneTooMany : List (List ℕ) → List ℕ → List File → Type 0
 IsOneTooMany records name files = (file_at name files ≡ []) × (records ≢ []) × (length files ≡ 65536)
 
--- the chunks of a file once `del` of its records from place `at` on became others
+-- The chunks of a file once `del` of its records from place `at` on became others.
 abbrev pub edited : ℕ → ℕ → List (List ℕ) → List (List (List ℕ)) → List (List (List ℕ))
 edited at del ins olds = chunks_of (spliced at del ins (joined olds))
 
--- the change of the file with this name by an edit, its place counted among all chunks
+-- The change of the file with this name by an edit, its place counted among all chunks.
 abbrev pub IsEditOf : ℕ → ℕ → List (List ℕ) → List ℕ → List File → Change → Type 0
 IsEditOf at del ins name files change =
     (own : Change) × (change ≡ raised (chunks_before name files) own) × IsChange at del ins (file_at name files) (edited at del ins (file_at name files)) own
 
--- the chunks of the file with this name became these, all of them
+-- The chunks of the file with this name became these, all of them.
 abbrev pub IsLoadOf : List (List (List ℕ)) → List ℕ → List File → Change → Type 0
 IsLoadOf chunks name files change = IsWhole (chunks_before name files) (file_at name files) chunks change
 
--- the file with this name stands at place `i`
+-- The file with this name stands at place `i`.
 pub record IsAt (name : List ℕ) (files : List File) (i : ℕ) : Type 0 where
   pub within : i < length files
   pub front : smaller name files ≡ take i files
@@ -87,19 +87,19 @@ pub record IsAt (name : List ℕ) (files : List File) (i : ℕ) : Type 0 where
   pub named : (d : File) → (slice_index_or files i d).0 ≡ name
   pub chunks : (d : File) → (slice_index_or files i d).1 ≡ file_at name files
 
--- no file has this name, and one with it would stand at place `i`
+-- No file has this name, and one with it would stand at place `i`.
 pub record IsGap (name : List ℕ) (files : List File) (i : ℕ) : Type 0 where
   pub within : i ≤ length files
   pub front : smaller name files ≡ take i files
   pub back : greater name files ≡ drop i files
   pub none : file_at name files ≡ []
 
--- where the chunks of each file end among all chunks
+-- Where the chunks of each file end among all chunks.
 abbrev pub ends_of : ℕ → List File → List ℕ
 ends_of from [] = []
 ends_of from (f ∷ fs) = (from + length f.1) ∷ ends_of (from + length f.1) fs
 
--- what stands beside files: where their chunks end, and the size of their text
+-- What stands beside files: where their chunks end, and the size of their text.
 pub record IsShelf (files : List File) (ends : List ℕ) (size : ℕ) : Type 0 where
   pub names : HasRisingNames files
   pub documents : HasDocuments files

@@ -1,4 +1,4 @@
-// What an edit changes, and why it is refused.
+//! What an edit changes, and why it is refused.
 ghost use Rattle.std.specs.Prelude.{◌≡◌, ◌<◌, ◌+◌, ◌^◌};
 ghost use Rattle.chunk_store.specs.Files.{raised};
 

@@ -1,4 +1,4 @@
-// Chunks with their counts.
+//! Chunks with their counts.
 ghost use Rattle.std.specs.Prelude.{◌≡◌, ◌≤◌, length, IfOk};
 ghost use Rattle.definitions.specs.Records.{text_of};
 

@@ -1,4 +1,4 @@
-// A list of records in chunks.
+//! A list of records in chunks.
 ghost use Rattle.std.specs.Prelude.{◌≡◌, ◌<◌, ◌≤◌, ◌+◌, ◌++◌, [], length, take, drop, slice_index_or, IfOk, OnOk, OnErr};
 ghost use Rattle.definitions.specs.Records.{text_of};
 ghost use Rattle.marker_chunker.specs.Cuts.{joined, chunks_of};

@@ -1,4 +1,4 @@
-// A list of documents in the order of their names, and where the chunks of each end.
+//! A list of documents in the order of their names, and where the chunks of each end.
 ghost use Rattle.std.specs.Prelude.{◌≡◌, ◌<◌, ◌≤◌, ◌+◌, ◌++◌, ◌∷◌, List, length, take, drop, slice_index_or, vec_capacity, IfOk, IfErr, OnOk, OnErr};
 ghost use Rattle.chunk_store.specs.Files.{File, HasRisingNames, IsAt, IsGap, all_chunks, ends_of, file_of};
 

@@ -1,4 +1,4 @@
-// Tests of named documents, with values worked by hand, and beside the same documents one by one.
+//! Tests of named documents, with values worked by hand, and beside the same documents one by one.
 use crate::tests::{blocks, change, draw, drawn, push, spelled as spelled_one};
 use crate::{Change, Document, EditFault, Files};
 use record_text::{Name, Records, is_name};

@@ -1,4 +1,4 @@
-// Documents by name, one of them the current one.
+//! Documents by name, one of them the current one.
 ghost use Rattle.std.specs.Prelude.{◌≡◌, ◌<◌, ◌≤◌, ◌+◌, [], ◌⊎◌, length, slice_index_or, IfOk, OnOk, OnErr};
 ghost use Rattle.marker_chunker.specs.Cuts.{joined, chunks_of};
 ghost use Rattle.chunk_store.specs.Documents.{text_size, Answers, IsSplice};

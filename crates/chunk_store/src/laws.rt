@@ -1,4 +1,4 @@
-// Laws of the definitions.
+//! Laws of the definitions.
 ghost use Rattle.std.specs.Prelude.{◌≡◌, ◌≢◌, ℕ, List};
 ghost use Rattle.chunk_store.specs.Files.{File, file_at, with_file};
 

@@ -1,4 +1,4 @@
-// Places of records among chunks.
+//! Places of records among chunks.
 ghost use Rattle.std.specs.Prelude.{◌≡◌, ◌<◌, ◌≤◌, ◌+◌, ℕ, List, length, take};
 ghost use Rattle.definitions.specs.Records.{text_of};
 ghost use Rattle.marker_chunker.specs.Cuts.{joined, reach};

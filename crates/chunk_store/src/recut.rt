@@ -1,4 +1,4 @@
-// Cuts again around the place of an edit.
+//! Cuts again around the place of an edit.
 ghost use Rattle.std.specs.Prelude.{◌≡◌, ◌<◌, ◌≤◌, ◌+◌, ◌++◌, ℕ, length, take, drop, IfOk, true};
 ghost use Rattle.std.specs.declared.option.Option.TheVariants.{None};
 ghost use Rattle.marker_chunker.specs.Cuts.{first_or, joined, reach, chunks_of, AreChunks};

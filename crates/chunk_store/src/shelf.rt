@@ -1,4 +1,4 @@
-// Documents in the order of their names.
+//! Documents in the order of their names.
 ghost use Rattle.std.specs.Prelude.{◌≡◌, ◌≢◌, ◌↔◌, IsTrue, ◌<◌, ◌≤◌, ◌+◌, [], ◌⊎◌, length, slice_index_or, IfOk, OnOk, OnErr};
 ghost use Rattle.marker_chunker.specs.Cuts.{joined, chunks_of};
 ghost use Rattle.chunk_store.specs.Documents.{text_size, Answers, IsSplice};

@@ -1,4 +1,4 @@
-// Tests of documents, with values worked by hand, and beside a plain program that cuts everything from nothing.
+//! Tests of documents, with values worked by hand, and beside a plain program that cuts everything from nothing.
 ghost use Rattle.std.specs.Prelude.{◌<◌};
 
 use crate::{Change, Document, EditFault};

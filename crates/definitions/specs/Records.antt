@@ -1,33 +1,33 @@
 -- Records, their text and their words.
 use Rattle.std.specs.Prelude.{◌≢◌, ◌≤◌, ℕ, Bool, ◌&&◌, ◌||◌, nat_le, if◌then◌else◌, List, [], ◌∷◌, ◌++◌, length, All}
 
--- a record has at most 65535 bytes, and none of them is LF
+-- A record has at most 65535 bytes, and none of them is LF.
 abbrev pub IsRecord : List ℕ → Type 0
 IsRecord bytes = (length bytes ≤ 65535) × All (λ b. b ≢ 10) bytes
 
--- each of these is a record
+-- Each of these is a record.
 abbrev pub AllRecords : List (List ℕ) → Type 0
 AllRecords records = All IsRecord records
 
--- the text of records: the bytes of each and one LF, end to end
+-- The text of records: the bytes of each and one LF, end to end.
 abbrev pub text_of : List (List ℕ) → List ℕ
 text_of [] = []
 text_of (r ∷ rs) = r ++ 10 ∷ text_of rs
 
--- a byte of a word is a letter from A to Z or from a to z, or a digit
+-- A byte of a word is a letter from A to Z or from a to z, or a digit.
 abbrev pub is_word_byte : ℕ → Bool
 is_word_byte b = (nat_le 65 b && nat_le b 90) || (nat_le 97 b && nat_le b 122) || (nat_le 48 b && nat_le b 57)
 
--- a word that has ended comes before the words behind it, unless it has no bytes
+-- A word that has ended comes before the words behind it, unless it has no bytes.
 abbrev pub word_before : List ℕ → List (List ℕ) → List (List ℕ)
 word_before [] words = words
 word_before (b ∷ bs) words = (b ∷ bs) ∷ words
 
--- the words of bytes behind the front of a word
+-- The words of bytes behind the front of a word.
 abbrev pub words_behind : List ℕ → List ℕ → List (List ℕ)
 words_behind front [] = word_before front []
 words_behind front (b ∷ bs) = if is_word_byte b then words_behind (front ++ b ∷ []) bs else word_before front (words_behind [] bs)
 
--- the words of a record: its longest runs of such bytes, in order
+-- The words of a record: its longest runs of such bytes, in order.
 abbrev pub words_of : List ℕ → List (List ℕ)
 words_of record' = words_behind [] record'

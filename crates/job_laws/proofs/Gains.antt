@@ -4,11 +4,11 @@ use Rattle.std.specs.Prelude.{Result, Ok, Err, OnErr, is_ok, if◌then◌else◌
 use Rattle.std.specs.List.{flat_map}
 use Rattle.std.proofs.lemmas.List.{take_more, take-append-drop, drop_more, flat_map_more}
 use Rattle.std.proofs.lemmas.List.Concat.{flat_map-append}
-use Rattle.definitions.specs.Outside.{GainsFront}
+use Rattle.definitions.specs.Outside.{GainsPrefix}
 use Rattle.job_laws.specs.Gained.{GainsPairs}
 
 -- nothing was gained
-pub gains_nothing : (all old : List ℕ) → GainsFront all old old
+pub gains_nothing : (all old : List ℕ) → GainsPrefix all old old
 gains_nothing all old = ([], (all, refl), sym (append-nil old))
 
 -- no pair was gained
@@ -16,9 +16,9 @@ pub gains_no_pairs : {V : Type 0} (all old : List (List ℕ × V)) → GainsPair
 gains_no_pairs all old = ([], all, refl, sym (append-nil old))
 
 -- unless the call gave up, nothing is said
-pub gains_unless_ok : {A E : Type 0} (r : Result A E) (all more old new : List ℕ) → new ≡ (if is_ok r then old ++ more else old) → OnErr r (GainsFront all old new)
+pub gains_unless_ok : {A E : Type 0} (r : Result A E) (all more old new : List ℕ) → new ≡ (if is_ok r then old ++ more else old) → OnErr r (GainsPrefix all old new)
 gains_unless_ok (Ok x) all more old new is = tt
-gains_unless_ok (Err e) all more old new is = subst (GainsFront all old) (sym is) (gains_nothing all old)
+gains_unless_ok (Err e) all more old new is = subst (GainsPrefix all old) (sym is) (gains_nothing all old)
 
 module _ {A : Type 0} (f : A → List ℕ) (v : List A) (i : ℕ) (d : A) (within : i < length v) where
   -- one piece more
@@ -29,8 +29,8 @@ module _ {A : Type 0} (f : A → List ℕ) (v : List A) (i : ℕ) (d : A) (withi
   all_pieces : flat_map f v ≡ flat_map f (take i v) ++ (f (get_or v i d) ++ flat_map f (drop (i + 1) v))
   all_pieces = ap (flat_map f) (sym (take-append-drop i v)) ∙ flat_map-append f (take i v) (drop i v) ∙ ap (λ l. flat_map f (take i v) ++ flat_map f l) (drop_more v i d within)
 
-  -- the pieces before one were gained, and a front of it
-  pub gains_next : (old mid new : List ℕ) → mid ≡ old ++ flat_map f (take i v) → GainsFront (f (get_or v i d)) mid new → GainsFront (flat_map f v) old new
+  -- the pieces before one were gained, and a prefix of it
+  pub gains_next : (old mid new : List ℕ) → mid ≡ old ++ flat_map f (take i v) → GainsPrefix (f (get_or v i d)) mid new → GainsPrefix (flat_map f v) old new
   gains_next old mid new at g =
       let front = flat_map f (take i v) in
       let rest = flat_map f (drop (i + 1) v) in

@@ -2,33 +2,33 @@
 use Rattle.std.specs.Prelude.{ℕ, Bool, true, false, ◌&&◌, ◌==◌, cond, List, [], ◌∷◌, Option, Some, None, option_map}
 use Rattle.definitions.specs.Numbers.{is_number}
 
--- the bytes before the first TAB, and those behind it
+-- The bytes before the first TAB, and those behind it.
 abbrev pub split_at_tab : List ℕ → Option (List ℕ × List ℕ)
 split_at_tab [] = None
 split_at_tab (b ∷ bs) = cond (b == 9) (Some ([], bs)) (option_map (λ p. (b ∷ p.0, p.1)) (split_at_tab bs))
 
--- some bytes
+-- Some bytes.
 abbrev pub has_bytes : List ℕ → Bool
 has_bytes [] = false
 has_bytes (b ∷ bs) = true
 
--- a test of both fields, where there is a TAB
+-- A test of both fields, where there is a TAB.
 abbrev pub fields_pass : (List ℕ → List ℕ → Bool) → Option (List ℕ × List ℕ) → Bool
 fields_pass test None = false
 fields_pass test (Some p) = test p.0 p.1
 
--- count accepts every record
+-- Count accepts every record.
 abbrev pub is_count_record : List ℕ → Bool
 is_count_record r = true
 
--- index accepts `doc` TAB `text`, where doc is a number
+-- Index accepts `doc` TAB `text`, where doc is a number.
 abbrev pub is_index_record : List ℕ → Bool
 is_index_record r = fields_pass (λ doc text. is_number doc) (split_at_tab r)
 
--- latest accepts `key` TAB `value`, where the key is not empty
+-- Latest accepts `key` TAB `value`, where the key is not empty.
 abbrev pub is_latest_record : List ℕ → Bool
 is_latest_record r = fields_pass (λ key value. has_bytes key) (split_at_tab r)
 
--- topk accepts `group` TAB `score` TAB `item`, where the group is not empty and the score is a number
+-- Topk accepts `group` TAB `score` TAB `item`, where the group is not empty and the score is a number.
 abbrev pub is_topk_record : List ℕ → Bool
 is_topk_record r = fields_pass (λ group behind. has_bytes group && fields_pass (λ score item. is_number score) (split_at_tab behind)) (split_at_tab r)

@@ -1,6 +1,6 @@
 -- What a list of pairs gained.
 use Rattle.std.specs.Prelude.{◌≡◌, ℕ, List, ◌++◌}
 
--- some pairs were gained at the end, which are the front of all
+-- Some pairs were gained at the end, which are a prefix of all.
 abbrev pub GainsPairs : {V : Type 0} → List (List ℕ × V) → List (List ℕ × V) → List (List ℕ × V) → Type 0
 GainsPairs {V} all old new = (gain : List (List ℕ × V)) × (rest : List (List ℕ × V)) × (all ≡ gain ++ rest) × (new ≡ old ++ gain)

@@ -1,4 +1,4 @@
-// The meter of the program.
+//! The meter of the program.
 ghost use Rattle.std.specs.Prelude.{◌≡◌};
 
 use crate::{Counts, Meter};

@@ -1,4 +1,4 @@
-// What mapping emits.
+//! What mapping emits.
 ghost use Rattle.std.specs.Prelude.{◌≡◌, [], ◌∷◌, ◌++◌, OnOk, OnErr};
 ghost use Rattle.definitions.specs.Tables.{IsKey};
 

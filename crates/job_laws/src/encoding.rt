@@ -1,4 +1,4 @@
-// Numbers as digests write them.
+//! Numbers as digests write them.
 ghost use Rattle.std.specs.Prelude.{◌≡◌};
 ghost use Rattle.job_laws.specs.Encoding.{be32, be64};
 

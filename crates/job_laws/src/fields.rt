@@ -1,4 +1,4 @@
-// The fields of a record.
+//! The fields of a record.
 ghost use Rattle.std.specs.Prelude.{◌≡◌, ◌≤◌, length};
 ghost use Rattle.job_laws.specs.Forms.{split_at_tab};
 ghost use Rattle.job_laws.specs.Fields.{fields_at};

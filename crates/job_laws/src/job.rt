@@ -1,6 +1,6 @@
-// Jobs and their laws.
+//! Jobs and their laws.
 ghost use Rattle.std.specs.Prelude.{◌≡◌, ℕ, Bool, List, ◌++◌, IsTrue, ◌↔◌, IfOk, OnOk, OnErr};
-ghost use Rattle.definitions.specs.Outside.{GainsFront};
+ghost use Rattle.definitions.specs.Outside.{GainsPrefix};
 ghost use Rattle.definitions.specs.Tables.{HasGoodValues, IsGoodJoin};
 ghost use Rattle.job_laws.specs.Counted.{risen};
 ghost use Rattle.job_laws.specs.Gained.{GainsPairs};
@@ -44,7 +44,7 @@ pub trait Job: Send + Sync + Drop {
     fn accepts(&self, r: &[u8]) -> bool
         ensures { result ≡ accepts (setting self.now) r.now };
 
-    /// Appends the pairs of the accepted record `r` to `out`; where memory runs out, a front of them.
+    /// Appends the pairs of the accepted record `r` to `out`; where memory runs out, a prefix of them.
     fn map(
         &self,
         alloc: Global,
@@ -78,7 +78,7 @@ pub trait Job: Send + Sync + Drop {
         ensures merges { Self.Meter.merges m.new ≡ Self.Meter.merges m.old }
         ensures joins { Self.Meter.joins m.new ≡ risen (Self.Meter.joins m.old) };
 
-    /// Appends the lines of the key `k` with its value `v` to `out`; where memory runs out, a front of them.
+    /// Appends the lines of the key `k` with its value `v` to `out`; where memory runs out, a prefix of them.
     fn line(
         &self,
         alloc: Global,
@@ -88,7 +88,7 @@ pub trait Job: Send + Sync + Drop {
     ) -> Result<(), AllocError>
         requires { good (setting self.now) v.now }
         ensures ok { OnOk result (out.new.items ≡ out.old.items ++ text (setting self.now) k.now v.now) }
-        ensures err { OnErr result (GainsFront (text (setting self.now) k.now v.now) out.old.items out.new.items) };
+        ensures err { OnErr result (GainsPrefix (text (setting self.now) k.now v.now) out.old.items out.new.items) };
 
     /// An equal value.
     fn copy(alloc: Global, v: &Self::Val) -> Result<Self::Val, AllocError>
@@ -98,10 +98,10 @@ pub trait Job: Send + Sync + Drop {
     fn same(a: &Self::Val, b: &Self::Val) -> bool
         ensures { IsTrue result ↔ (a.now ≡ b.now) };
 
-    /// Appends to `out` what `v` is encoded as; where memory runs out, a front of it.
+    /// Appends to `out` what `v` is encoded as; where memory runs out, a prefix of it.
     fn encode(v: &Self::Val, out: &mut Vec<u8>) -> Result<(), AllocError>
         ensures ok { OnOk result (out.new.items ≡ out.old.items ++ encoded v.now) }
-        ensures err { OnErr result (GainsFront (encoded v.now) out.old.items out.new.items) };
+        ensures err { OnErr result (GainsPrefix (encoded v.now) out.old.items out.new.items) };
 
     // Emitted values are good.
     ghost emits_good: { (s : ℕ) (r : List ℕ) → IsTrue (accepts s r) → HasGoodValues (good s) (emits s r) };

@@ -1,4 +1,4 @@
-// The jobs that a program is handed.
+//! The jobs that a program is handed.
 ghost use Rattle.std.specs.Prelude.{◌≡◌, ◌≤◌, ℕ, List};
 ghost use Rattle.definitions.specs.Records.{IsRecord};
 ghost use Rattle.job_laws.specs.Forms.{is_count_record, is_index_record, is_topk_record, is_latest_record};

@@ -1,4 +1,4 @@
-// Keys, which tables share.
+//! Keys, which tables share.
 ghost use Rattle.std.specs.Prelude.{◌≡◌, ◌≤◌, length, IfOk};
 ghost use Rattle.definitions.specs.Tables.{IsKey, key_cmp};
 

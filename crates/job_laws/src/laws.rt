@@ -1,4 +1,4 @@
-// What the laws of a job give for tables.
+//! What the laws of a job give for tables.
 ghost use Rattle.std.specs.Prelude.{ℕ};
 ghost use Rattle.job_laws.specs.Laws.{TablesAppend, MergingAssociates, MergingCommutes, TablesKeepGood, MergesKeepGood};
 

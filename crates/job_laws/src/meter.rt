@@ -1,4 +1,4 @@
-// Counts of what was done.
+//! Counts of what was done.
 ghost use Rattle.std.specs.Prelude.{◌≡◌, ℕ};
 ghost use Rattle.job_laws.specs.Counted.{risen};
 

@@ -1,4 +1,4 @@
-// The meters of a run.
+//! The meters of a run.
 use crate::Meter;
 
 /// The meters of the 16 lanes that map, and of the 16 parts that merge. A call that takes a row has the condition

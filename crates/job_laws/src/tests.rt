@@ -1,4 +1,4 @@
-// Keys, emitted pairs and counts, as a caller meets them.
+//! Keys, emitted pairs and counts, as a caller meets them.
 ghost use Rattle.std.specs.Prelude.{length};
 
 use crate::{CountMeter, Counts, Emit, Key, Meter, MeterRow, be32_bytes, be64_bytes, tab_at};

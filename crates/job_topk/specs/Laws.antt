@@ -13,7 +13,7 @@ use Rattle.job_topk.specs.Merging.{in_order_into, in_order, IsFirstOf, IsOrdered
 use Rattle.job_topk.specs.TopK.{member_pair, group_pair, topk_emits, member_cmp, topk_joined, topk_good}
 
 module _ {A : Type 0} (R : A → A → Ordering) where
-  -- the first k of a merge are of the first k of the left list
+  -- The first k of a merge are of the first k of the left list.
   take_left : (k j : ℕ) (a b : List A) → k ≤ j → take k (in_order R (take j a) b) ≡ take k (in_order R a b)
   take_left zero j a b le = refl
   take_left (suc k) zero a b le = absurd (omega (arith, le))
@@ -25,7 +25,7 @@ module _ {A : Type 0} (R : A → A → Ordering) where
         | false ↦ ap (λ l. x ∷ l) (take_left k j xs (y ∷ ys) (omega (arith, le)))
       ]
 
-  -- and of the right list
+  -- And of the right list.
   take_right : (k j : ℕ) (a b : List A) → k ≤ j → take k (in_order R a (take j b)) ≡ take k (in_order R a b)
   take_right zero j a b le = refl
   take_right (suc k) zero a b le = absurd (omega (arith, le))
@@ -37,7 +37,7 @@ module _ {A : Type 0} (R : A → A → Ordering) where
         | false ↦ ap (λ l. x ∷ l) (take_right k (suc j) xs (y ∷ ys) (omega (arith, le)))
       ]
 
-  -- what is first of both lists is first of their merge
+  -- What is first of both lists is first of their merge.
   first_into : (z x : A) (rest : List A → List A) → is_gt (R z x) ≡ false → ((u : List A) → IsFirstOf R z u → IsFirstOf R z (rest u)) → (u : List A) → IsFirstOf R z u → IsFirstOf R z (in_order_into R x rest u)
   first_into z x rest lo ih [] f = (lo, ih [] f)
   first_into z x rest lo ih (y ∷ ys) f =
@@ -47,7 +47,7 @@ module _ {A : Type 0} (R : A → A → Ordering) where
   first_merge z [] f u g = g
   first_merge z (x ∷ xs) f u g = first_into z x (in_order R xs) f.0 (first_merge z xs f.1) u g
 
-  -- the front of an ordered list is ordered
+  -- The front of an ordered list is ordered.
   first_take : (z : A) (k : ℕ) (a : List A) → IsFirstOf R z a → IsFirstOf R z (take k a)
   first_take z zero a f = tt
   first_take z (suc k) [] f = tt
@@ -58,7 +58,7 @@ module _ {A : Type 0} (R : A → A → Ordering) where
   ordered_take (suc k) [] o = tt
   ordered_take (suc k) (x ∷ xs) o = (first_take x k xs o.0, ordered_take k xs o.1)
 
-  -- both sides of a test
+  -- Both sides of a test.
   pub behind : (x : A) (xs : List A) (y : A) (ys : List A) → is_gt (R x y) ≡ true → in_order R (x ∷ xs) (y ∷ ys) ≡ y ∷ in_order R (x ∷ xs) ys
   behind x xs y ys h = rw h refl
 
@@ -75,18 +75,18 @@ module _ {A : Type 0} {R : A → A → Ordering} (order : IsTotalOrder R) (ties 
   greater Equal h = cc
   greater Greater h = refl
 
-  -- what stands behind another stands before nothing that stands behind it
+  -- What stands behind another stands before nothing that stands behind it.
   turned : (x y : A) → is_gt (R x y) ≡ true → is_gt (R y x) ≡ false
   turned x y h = rw (order.antisymm y x, greater (R x y) h) refl
 
-  -- what stands behind a second that stands behind a third stands behind it
+  -- What stands behind a second that stands behind a third stands behind it.
   chained : (x y z : A) → is_gt (R x y) ≡ true → is_gt (R y z) ≡ true → is_gt (R x z) ≡ true
   chained x y z h g =
       let yx : R y x ≡ Less = order.antisymm y x ∙ ap ordering_reverse (greater (R x y) h) in
       let zy : R z y ≡ Less = order.antisymm z y ∙ ap ordering_reverse (greater (R y z) g) in
       rw (order.antisymm x z, order.trans z y x zy yx) refl
 
-  -- what stands before one that stands behind a third stands behind it
+  -- What stands before one that stands behind a third stands behind it.
   passed : (x y z : A) → is_gt (R x y) ≡ false → is_gt (R x z) ≡ true → is_gt (R y z) ≡ true
   passed x y z h g = by (is_gt (R y z)) refl
     where
@@ -106,7 +106,7 @@ module _ {A : Type 0} {R : A → A → Ordering} (order : IsTotalOrder R) (ties 
       by Equal a b = refl
       by Greater a b = cc
 
-  -- merging is associative, whatever the lists
+  -- Merging is associative, whatever the lists.
   in_order_assoc : (a b c : List A) → in_order R (in_order R a b) c ≡ in_order R a (in_order R b c)
   in_order_assoc [] b c = refl
   in_order_assoc (x ∷ xs) [] c = ap (λ l. in_order R l c) (none_right R (x ∷ xs))
@@ -155,7 +155,7 @@ module _ {A : Type 0} {R : A → A → Ordering} (order : IsTotalOrder R) (ties 
           ∙ sym (ahead R x xs y (in_order R ys (z ∷ zs)) xy)
           ∙ ap (λ l. in_order R (x ∷ xs) l) (sym (ahead R y ys z zs yz))
 
-  -- a member that is first of a list goes before it
+  -- A member that is first of a list goes before it.
   first_left : (x : A) (xs b : List A) → IsFirstOf R x b → in_order R (x ∷ xs) b ≡ x ∷ in_order R xs b
   first_left x xs [] f = refl
   first_left x xs (y ∷ ys) f = ahead R x xs y ys f.0
@@ -174,7 +174,7 @@ module _ {A : Type 0} {R : A → A → Ordering} (order : IsTotalOrder R) (ties 
           ∙ ap (λ m. x ∷ (m ∷ in_order R hs b)) same
           ∙ ap (λ l. x ∷ l) (sym (first_left h hs b (subst (λ m. IsFirstOf R m b) same g)))
 
-  -- merging ordered lists is commutative
+  -- Merging ordered lists is commutative.
   in_order_comm : (a b : List A) → IsOrdered R a → IsOrdered R b → in_order R a b ≡ in_order R b a
   in_order_comm [] b o p = sym (none_right R b)
   in_order_comm (x ∷ xs) [] o p = none_right R (x ∷ xs)
@@ -194,12 +194,12 @@ module _ {A : Type 0} {R : A → A → Ordering} (order : IsTotalOrder R) (ties 
           ∙ ap (λ m. m ∷ in_order R ys (x ∷ xs)) same
           ∙ sym (ahead R y ys x xs yx)
 
-  -- what stands behind no member of a list that starts later
+  -- What stands behind no member of a list that starts later.
   first_chain : (x y : A) (b : List A) → is_gt (R x y) ≡ false → IsFirstOf R y b → IsFirstOf R x b
   first_chain x y [] h f = tt
   first_chain x y (z ∷ zs) h f = (upto order x y z h f.0, first_chain x y zs h f.1)
 
-  -- the merge of ordered lists is ordered
+  -- The merge of ordered lists is ordered.
   in_order_ordered : (a b : List A) → IsOrdered R a → IsOrdered R b → IsOrdered R (in_order R a b)
   in_order_ordered [] b o p = p
   in_order_ordered (x ∷ xs) [] o p = subst (IsOrdered R) (sym (none_right R (x ∷ xs))) o
@@ -211,11 +211,11 @@ module _ {A : Type 0} {R : A → A → Ordering} (order : IsTotalOrder R) (ties 
           subst (IsOrdered R) (sym (behind R x xs y ys is)) (first_merge R y (x ∷ xs) (low, first_chain y x xs low o.0) ys p.0, ih1)
       by false is ih1 ih2 = subst (IsOrdered R) (sym (ahead R x xs y ys is)) (first_merge R x xs o.0 (y ∷ ys) (is, first_chain x y ys is p.0), ih2)
 
--- members are in one order
+-- Members are in one order.
 member_order : IsTotalOrder member_cmp
 member_order = then_total (on_total (λ m. m.0) (back_total nat_cmp_total)) (on_total (λ m. m.1) nat_list_cmp_total)
 
--- members that tie are the same
+-- Members that tie are the same.
 member_ties : (a b : ℕ × List ℕ) → member_cmp a b ≡ Equal → a ≡ b
 member_ties a b h =
     let score : nat_cmp b.0 a.0 ≡ Equal = one (nat_cmp b.0 a.0) (key_cmp a.1 b.1) h in
@@ -242,11 +242,11 @@ good_group : (k : ℕ) (found : Option (List ℕ × List ℕ)) → HasGoodValues
 good_group k None = tt
 good_group k (Some p) = good_member k p.0 (split_at_tab p.1)
 
--- emitted lists are good
+-- Emitted lists are good.
 pub topk_emits_good : (k : ℕ) (r : List ℕ) → HasGoodValues (topk_good k) (topk_emits r)
 topk_emits_good k r = good_group k (split_at_tab r)
 
--- joining keeps good lists, and is associative on them
+-- Joining keeps good lists, and is associative on them.
 pub topk_join_laws : (k : ℕ) → IsGoodJoin (topk_good k) (topk_joined k)
 topk_join_laws k = record { keeps = keeps_good; assoc = assoc_good }
   where
@@ -261,6 +261,6 @@ topk_join_laws k = record { keeps = keeps_good; assoc = assoc_good }
         ∙ ap (take k) (in_order_assoc member_order member_ties a b c)
         ∙ sym (take_right member_cmp k k a (in_order member_cmp b c) (omega arith))
 
--- joining is commutative on good lists
+-- Joining is commutative on good lists.
 pub topk_joined_comm : (k : ℕ) (a b : List (ℕ × List ℕ)) → topk_good k a → topk_good k b → topk_joined k a b ≡ topk_joined k b a
 topk_joined_comm k a b g h = ap (take k) (in_order_comm member_order member_ties a b g.1 h.1)

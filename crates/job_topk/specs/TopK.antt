@@ -9,48 +9,48 @@ use Rattle.job_laws.specs.Forms.{split_at_tab, is_topk_record}
 use Rattle.job_laws.specs.Encoding.{be32}
 use Rattle.job_topk.specs.Merging.{in_order, IsOrdered}
 
--- topk accepts the records of its form
+-- Topk accepts the records of its form.
 abbrev pub topk_accepts : List ℕ → Bool
 topk_accepts r = nat_le (length r) 65535 && is_topk_record r
 
--- the group with the list of score and item alone, where both TABs are there
+-- The group with the list of score and item alone, where both TABs are there.
 abbrev pub member_pair : List ℕ → Option (List ℕ × List ℕ) → List (List ℕ × List (ℕ × List ℕ))
 member_pair group None = []
 member_pair group (Some p) = (group, (digits_value p.0, p.1) ∷ []) ∷ []
 
--- the same of both fields round the first TAB
+-- The same of both fields round the first TAB.
 abbrev pub group_pair : Option (List ℕ × List ℕ) → List (List ℕ × List (ℕ × List ℕ))
 group_pair None = []
 group_pair (Some p) = member_pair p.0 (split_at_tab p.1)
 
--- the group with the list of score and item alone
+-- The group with the list of score and item alone.
 abbrev pub topk_emits : List ℕ → List (List ℕ × List (ℕ × List ℕ))
 topk_emits r = group_pair (split_at_tab r)
 
--- score falling, then item rising in the order of bytes
+-- Score falling, then item rising in the order of bytes.
 abbrev pub member_cmp : ℕ × List ℕ → ℕ × List ℕ → Ordering
 member_cmp = then_cmp (on (λ m. m.0) (flip_args nat_cmp)) (on (λ m. m.1) key_cmp)
 
--- the first k of the two lists merged, repeats kept
+-- The first k of the two lists merged, repeats kept.
 abbrev pub topk_joined : ℕ → List (ℕ × List ℕ) → List (ℕ × List ℕ) → List (ℕ × List ℕ)
 topk_joined k a b = take k (in_order member_cmp a b)
 
--- a list in this order has at most k members; one member alone is good at every k
+-- A list in this order has at most k members; one member alone is good at every k.
 abbrev pub topk_good : ℕ → List (ℕ × List ℕ) → Type 0
 topk_good k v = (length v ≤ max k 1) × IsOrdered member_cmp v
 
--- the group, TAB, the score, TAB, the item, LF
+-- The group, TAB, the score, TAB, the item, LF.
 abbrev pub member_text : List ℕ → ℕ × List ℕ → List ℕ
 member_text group m = group ++ (9 ∷ decimal m.0 ++ (9 ∷ m.1 ++ 10 ∷ []))
 
--- that line for each member in order
+-- That line for each member in order.
 abbrev pub topk_text : List ℕ → List (ℕ × List ℕ) → List ℕ
 topk_text group ms = flat_map (member_text group) ms
 
--- the score and the item's length as 4 bytes each, and the item
+-- The score and the item's length as 4 bytes each, and the item.
 abbrev pub member_encoded : ℕ × List ℕ → List ℕ
 member_encoded m = be32 m.0 ++ (be32 (length m.1) ++ m.1)
 
--- that for each member in order
+-- That for each member in order.
 abbrev pub topk_encoded : List (ℕ × List ℕ) → List ℕ
 topk_encoded ms = flat_map member_encoded ms

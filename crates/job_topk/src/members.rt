@@ -1,4 +1,4 @@
-// What stands with a group.
+//! What stands with a group.
 ghost use Rattle.std.specs.Prelude.{◌≡◌, ◌++◌, [], ◌∷◌, IfOk, OnOk, OnErr};
 ghost use Rattle.std.specs.Ordering.{is_gt};
 ghost use Rattle.job_topk.specs.TopK.{member_cmp};

@@ -1,4 +1,4 @@
-// Merging ranked lists.
+//! Merging ranked lists.
 ghost use Rattle.std.specs.Prelude.{◌≡◌, IfOk, take};
 ghost use Rattle.job_topk.specs.Merging.{in_order};
 ghost use Rattle.job_topk.specs.TopK.{member_cmp};

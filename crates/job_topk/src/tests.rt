@@ -1,4 +1,4 @@
-// The job as a program calls it, through the bound.
+//! The job as a program calls it, through the bound.
 ghost use Rattle.std.specs.Prelude.{◌≤◌, ℕ, length, IfOk};
 ghost use Rattle.job_topk.specs.TopK.{topk_good};
 

@@ -1,6 +1,6 @@
-// Keeps the highest scores.
+//! Keeps the highest scores.
 ghost use Rattle.std.specs.Prelude.{◌≡◌, ◌≤◌, ◌++◌, ◌↔◌, IsTrue, IfOk, OnOk, OnErr, SomeIff};
-ghost use Rattle.definitions.specs.Outside.{GainsFront};
+ghost use Rattle.definitions.specs.Outside.{GainsPrefix};
 ghost use Rattle.job_topk.specs.TopK.{topk_accepts, topk_emits, topk_joined, topk_good, member_text, topk_text, member_encoded, topk_encoded};
 ghost use Rattle.job_topk.specs.Laws.{topk_emits_good, topk_join_laws, topk_joined_comm};
 
@@ -80,10 +80,10 @@ fn is_same(a: &(u32, Bytes), b: &(u32, Bytes)) -> bool
     a.0 == b.0 && a.1.bytes() == b.1.bytes()
 }
 
-// Appends what a member is encoded as; where memory runs out, a front of it.
+// Appends what a member is encoded as; where memory runs out, a prefix of it.
 fn put_encoded(member: &(u32, Bytes), out: &mut Vec<u8>) -> Result<(), AllocError>
     ensures ok { OnOk result (out.new.items ≡ out.old.items ++ member_encoded member.now) }
-    ensures err { OnErr result (GainsFront (member_encoded member.now) out.old.items out.new.items) }
+    ensures err { OnErr result (GainsPrefix (member_encoded member.now) out.old.items out.new.items) }
 {
     let item = member.1.bytes();
     out.extend_from_slice(&be32_bytes(member.0))?;

@@ -6,39 +6,39 @@ use Rattle.definitions.specs.Tables.{HasGoodValues, IsGoodJoin}
 use Rattle.job_laws.specs.Encoding.{be64}
 use Rattle.jobs_basic.specs.Words.{good_words}
 
--- count accepts every record
+-- Count accepts every record.
 abbrev pub count_accepts : List ℕ → Bool
 count_accepts r = nat_le (length r) 65535
 
--- a word stands once
+-- A word stands once.
 abbrev pub once : List ℕ → List ℕ × ℕ
 once word = (word, 1)
 
--- each word of the record in order, with 1
+-- Each word of the record in order, with 1.
 abbrev pub count_emits : List ℕ → List (List ℕ × ℕ)
 count_emits r = map once (words_of r)
 
--- the sum, up to 2^64 - 1
+-- The sum, up to 2^64 - 1.
 abbrev pub count_joined : ℕ → ℕ → ℕ
 count_joined a b = min (a + b) (2 ^ 64 - 1)
 
--- a count is at most 2^64 - 1
+-- A count is at most 2^64 - 1.
 abbrev pub count_good : ℕ → Type 0
 count_good n = n ≤ 2 ^ 64 - 1
 
--- the word, TAB, the number, LF
+-- The word, TAB, the number, LF.
 abbrev pub count_text : List ℕ → ℕ → List ℕ
 count_text word n = word ++ (9 ∷ decimal n ++ 10 ∷ [])
 
--- the number as 8 bytes
+-- The number as 8 bytes.
 abbrev pub count_encoded : ℕ → List ℕ
 count_encoded n = be64 n
 
--- emitted counts are good
+-- Emitted counts are good.
 pub count_emits_good : (r : List ℕ) → HasGoodValues count_good (count_emits r)
 count_emits_good r = good_words count_good once (λ word. omega arith) r
 
--- joining keeps good counts, and is associative on them
+-- Joining keeps good counts, and is associative on them.
 pub count_join_laws : IsGoodJoin count_good count_joined
 count_join_laws = record { keeps = keeps_good; assoc = assoc_good }
   where
@@ -48,6 +48,6 @@ count_join_laws = record { keeps = keeps_good; assoc = assoc_good }
     assoc_good : (a b c : ℕ) → count_good a → count_good b → count_good c → count_joined (count_joined a b) c ≡ count_joined a (count_joined b c)
     assoc_good a b c g h i = omega arith
 
--- joining is commutative
+-- Joining is commutative.
 pub count_joined_comm : (a b : ℕ) → count_joined a b ≡ count_joined b a
 count_joined_comm a b = omega arith

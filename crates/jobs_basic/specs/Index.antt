@@ -6,60 +6,60 @@ use Rattle.definitions.specs.Numbers.{digits_value}
 use Rattle.job_laws.specs.Forms.{split_at_tab, is_index_record}
 use Rattle.job_laws.specs.Encoding.{be32}
 
--- index accepts the records of its form
+-- Index accepts the records of its form.
 abbrev pub index_accepts : List ℕ → Bool
 index_accepts r = nat_le (length r) 65535 && is_index_record r
 
--- a word with the list of one document
+-- A word with the list of one document.
 abbrev pub in_document : ℕ → List ℕ → List ℕ × List ℕ
 in_document doc word = (word, doc ∷ [])
 
--- each word of the text, where there is a TAB
+-- Each word of the text, where there is a TAB.
 abbrev pub text_pairs : Option (List ℕ × List ℕ) → List (List ℕ × List ℕ)
 text_pairs None = []
 text_pairs (Some p) = map (in_document (digits_value p.0)) (words_of p.1)
 
--- each word of the text in order, with the list of the document alone
+-- Each word of the text in order, with the list of the document alone.
 abbrev pub index_emits : List ℕ → List (List ℕ × List ℕ)
 index_emits r = text_pairs (split_at_tab r)
 
--- a document and the union of the rest after it with the others: each in its place, and once where both have it
+-- A document and the union of the rest after it with the others: each in its place, and once where both have it.
 abbrev pub union_into : ℕ → (List ℕ → List ℕ) → List ℕ → List ℕ
 union_into d rest [] = d ∷ rest []
 union_into d rest (e ∷ es) = cond (nat_lt d e) (d ∷ rest (e ∷ es)) (cond (nat_lt e d) (e ∷ union_into d rest es) (d ∷ rest es))
 
--- the union of two rising lists
+-- The union of two rising lists.
 abbrev pub union : List ℕ → List ℕ → List ℕ
 union [] es = es
 union (d ∷ ds) es = union_into d (union ds) es
 
--- the union
+-- The union.
 abbrev pub index_joined : List ℕ → List ℕ → List ℕ
 index_joined a b = union a b
 
--- numbers that strictly rise from a least one up to 4294967295
+-- Numbers that strictly rise from a least one up to 4294967295.
 abbrev pub RisesFrom : ℕ → List ℕ → Type 0
 RisesFrom least [] = Unit {0}
 RisesFrom least (d ∷ ds) = (least ≤ d) × (d ≤ 4294967295) × RisesFrom (suc d) ds
 
--- a strictly rising list of numbers up to 4294967295
+-- A strictly rising list of numbers up to 4294967295.
 abbrev pub index_good : List ℕ → Type 0
 index_good ds = RisesFrom 0 ds
 
--- a comma and the number, for each
+-- A comma and the number, for each.
 abbrev pub behind_commas : List ℕ → List ℕ
 behind_commas [] = []
 behind_commas (d ∷ ds) = 44 ∷ decimal d ++ behind_commas ds
 
--- the numbers joined by commas
+-- The numbers joined by commas.
 abbrev pub with_commas : List ℕ → List ℕ
 with_commas [] = []
 with_commas (d ∷ ds) = decimal d ++ behind_commas ds
 
--- the word, TAB, the numbers joined by commas, LF
+-- The word, TAB, the numbers joined by commas, LF.
 abbrev pub index_text : List ℕ → List ℕ → List ℕ
 index_text word ds = word ++ (9 ∷ with_commas ds ++ 10 ∷ [])
 
--- each document as 4 bytes, in order
+-- Each document as 4 bytes, in order.
 abbrev pub index_encoded : List ℕ → List ℕ
 index_encoded ds = flat_map be32 ds

@@ -8,7 +8,7 @@ use Rattle.job_laws.specs.Forms.{split_at_tab, fields_pass, is_index_record}
 use Rattle.jobs_basic.specs.Words.{good_words}
 use Rattle.jobs_basic.specs.Index.{in_document, text_pairs, index_accepts, index_emits, union, index_joined, RisesFrom, index_good}
 
--- the three cases of two fronts
+-- The three cases of two fronts.
 lower : (d : ℕ) (ds : List ℕ) (e : ℕ) (es : List ℕ) → d < e → union (d ∷ ds) (e ∷ es) ≡ d ∷ union ds (e ∷ es)
 lower d ds e es lt =
     let is : nat_lt d e ≡ true = grind arith in
@@ -29,7 +29,7 @@ pub none_right : (ds : List ℕ) → union ds [] ≡ ds
 none_right [] = refl
 none_right (d ∷ ds) = ap (λ l. d ∷ l) (none_right ds)
 
--- which of two numbers is lower
+-- Which of two numbers is lower.
 data Order (d e : ℕ) : Type 0 where
   below : d < e → Order d e
   level : d ≡ e → Order d e
@@ -46,7 +46,7 @@ order_of d e = first (nat_lt d e) refl
     first true is = below (grind arith)
     first false is = second (nat_lt e d) refl is
 
--- a union is commutative, whatever the lists
+-- A union is commutative, whatever the lists.
 union_comm : (a b : List ℕ) → union a b ≡ union b a
 union_comm [] b = sym (none_right b)
 union_comm (d ∷ ds) [] = none_right (d ∷ ds)
@@ -62,12 +62,12 @@ union_comm (d ∷ ds) (e ∷ es) = by (order_of d e) (union_comm (d ∷ ds) es) 
         ∙ sym (same d es ds)
         ∙ ap (λ n. union (n ∷ es) (d ∷ ds)) eq
 
--- a list that rises from a number rises from each lower one
+-- A list that rises from a number rises from each lower one.
 rises_lower : (n m : ℕ) (ds : List ℕ) → n ≤ m → RisesFrom m ds → RisesFrom n ds
 rises_lower n m [] le h = tt
 rises_lower n m (d ∷ ds) le h = (omega (arith, le, h.0), h.1, h.2)
 
--- the union of rising lists rises
+-- The union of rising lists rises.
 union_rises : (n : ℕ) (a b : List ℕ) → RisesFrom n a → RisesFrom n b → RisesFrom n (union a b)
 union_rises n [] b g h = h
 union_rises n (d ∷ ds) [] g h = subst (RisesFrom n) (sym (none_right (d ∷ ds))) g
@@ -82,7 +82,7 @@ union_rises n (d ∷ ds) (e ∷ es) g h = by (order_of d e) (λ m g' h'. union_r
     by (above gt) ih1 ih2 ih3 = subst (RisesFrom n) (sym (higher d ds e es gt)) (h.0, h.1, ih2 (suc e) (omega (arith, gt), g.1, g.2) h.2)
     by (level eq) ih1 ih2 ih3 = subst (RisesFrom n) (sym (ap (λ m. union (d ∷ ds) (m ∷ es)) (sym eq) ∙ same d ds es)) (g.0, g.1, ih3 (suc d) g.2 (subst (λ m. RisesFrom (suc m) es) (sym eq) h.2))
 
--- a number below both fronts is the front
+-- A number below both fronts is the front.
 front_right : (x : ℕ) (xs : List ℕ) (y : ℕ) (ys : List ℕ) (z : ℕ) (zs : List ℕ) → x < y → x < z → union (x ∷ xs) (union (y ∷ ys) (z ∷ zs)) ≡ x ∷ union xs (union (y ∷ ys) (z ∷ zs))
 front_right x xs y ys z zs xy xz = by (order_of y z)
   where
@@ -100,11 +100,11 @@ front_left x xs y ys z zs zx zy =
     ∙ front_right z zs x xs y ys zx zy
     ∙ ap (λ l. z ∷ l) (union_comm zs (union (x ∷ xs) (y ∷ ys)))
 
--- equal fronts become one
+-- Equal fronts become one.
 level_fronts : (d : ℕ) (ds : List ℕ) (e : ℕ) (es : List ℕ) → d ≡ e → union (d ∷ ds) (e ∷ es) ≡ d ∷ union ds es
 level_fronts d ds e es eq = ap (λ n. union (d ∷ ds) (n ∷ es)) (sym eq) ∙ same d ds es
 
--- a union is associative, whatever the lists
+-- A union is associative, whatever the lists.
 union_assoc : (a b c : List ℕ) → union (union a b) c ≡ union a (union b c)
 union_assoc [] b c = refl
 union_assoc (x ∷ xs) [] c = ap (λ l. union l c) (none_right (x ∷ xs))
@@ -169,7 +169,7 @@ union_assoc (x ∷ xs) (y ∷ ys) (z ∷ zs) = by (order_of x y) (order_of x z) 
         ∙ ap (λ l. union (x ∷ xs) l) (sym (level_fronts y ys z zs yz))
     by (above yx) xz (above zy) abw avc avw ubc ubw uvc uvw = last (omega (arith, yx, zy)) zy abw
 
--- a number is at most 4294967295
+-- A number is at most 4294967295.
 number_fits : (bytes : List ℕ) → IsTrue (is_number bytes) → digits_value bytes ≤ 4294967295
 number_fits bytes h = grind arith
 
@@ -179,14 +179,14 @@ good_text (Some p) h =
     let fits : digits_value p.0 ≤ 4294967295 = number_fits p.0 h in
     good_words index_good (in_document (digits_value p.0)) (λ word. (omega arith, fits, tt)) p.1
 
--- emitted lists are good
+-- Emitted lists are good.
 pub index_emits_good : (r : List ℕ) → IsTrue (index_accepts r) → HasGoodValues index_good (index_emits r)
 index_emits_good r h = good_text (split_at_tab r) (and_parts (nat_le (length r) 65535) (is_index_record r) h).1
 
--- joining keeps good lists, and is associative on them
+-- Joining keeps good lists, and is associative on them.
 pub index_join_laws : IsGoodJoin index_good index_joined
 index_join_laws = record { keeps = λ a b g h. union_rises 0 a b g h; assoc = λ a b c g h i. union_assoc a b c }
 
--- joining is commutative
+-- Joining is commutative.
 pub index_joined_comm : (a b : List ℕ) → index_joined a b ≡ index_joined b a
 index_joined_comm a b = union_comm a b

@@ -4,32 +4,32 @@ use Rattle.std.proofs.Common.{refl}
 use Rattle.definitions.specs.Tables.{HasGoodValues, IsGoodJoin}
 use Rattle.job_laws.specs.Forms.{split_at_tab, is_latest_record}
 
--- latest accepts the records of its form
+-- Latest accepts the records of its form.
 abbrev pub latest_accepts : List ℕ → Bool
 latest_accepts r = nat_le (length r) 65535 && is_latest_record r
 
--- both fields as one pair, where there is a TAB
+-- Both fields as one pair, where there is a TAB.
 abbrev pub field_pair : Option (List ℕ × List ℕ) → List (List ℕ × List ℕ)
 field_pair None = []
 field_pair (Some p) = (p.0, p.1) ∷ []
 
--- the key with the value
+-- The key with the value.
 abbrev pub latest_emits : List ℕ → List (List ℕ × List ℕ)
 latest_emits r = field_pair (split_at_tab r)
 
--- the right one
+-- The right one.
 abbrev pub latest_joined : List ℕ → List ℕ → List ℕ
 latest_joined a b = b
 
--- every list of bytes is good
+-- Every list of bytes is good.
 abbrev pub latest_good : List ℕ → Type 0
 latest_good v = Unit {0}
 
--- the key, TAB, the value, LF
+-- The key, TAB, the value, LF.
 abbrev pub latest_text : List ℕ → List ℕ → List ℕ
 latest_text key v = key ++ (9 ∷ v ++ 10 ∷ [])
 
--- the bytes of the value
+-- The bytes of the value.
 abbrev pub latest_encoded : List ℕ → List ℕ
 latest_encoded v = v
 
@@ -37,10 +37,10 @@ good_pair : (found : Option (List ℕ × List ℕ)) → HasGoodValues latest_goo
 good_pair None = tt
 good_pair (Some p) = (tt, tt)
 
--- emitted values are good
+-- Emitted values are good.
 pub latest_emits_good : (r : List ℕ) → HasGoodValues latest_good (latest_emits r)
 latest_emits_good r = good_pair (split_at_tab r)
 
--- joining keeps good values, and is associative on them
+-- Joining keeps good values, and is associative on them.
 pub latest_join_laws : IsGoodJoin latest_good latest_joined
 latest_join_laws = record { keeps = λ a b g h. tt; assoc = λ a b c g h i. refl }

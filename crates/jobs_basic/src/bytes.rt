@@ -1,4 +1,4 @@
-// Bytes that tables share.
+//! Bytes that tables share.
 ghost use Rattle.std.specs.Prelude.{◌≡◌, ◌≤◌, length, IfOk};
 
 use std::alloc::{AllocError, Global};

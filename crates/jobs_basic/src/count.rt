@@ -1,4 +1,4 @@
-// Counts words.
+//! Counts words.
 ghost use Rattle.std.specs.Prelude.{◌≡◌, ◌≤◌, length, IfOk};
 ghost use Rattle.jobs_basic.specs.Count.{count_accepts, count_emits, count_joined, count_good, count_text, count_encoded, count_emits_good, count_join_laws, count_joined_comm};
 

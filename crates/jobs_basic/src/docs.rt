@@ -1,4 +1,4 @@
-// Lists of documents.
+//! Lists of documents.
 ghost use Rattle.std.specs.Prelude.{◌≡◌, [], ◌∷◌, ◌++◌, IfOk};
 ghost use Rattle.jobs_basic.specs.Index.{union};
 

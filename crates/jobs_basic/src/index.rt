@@ -1,4 +1,4 @@
-// Lists the documents of each word.
+//! Lists the documents of each word.
 ghost use Rattle.std.specs.Prelude.{◌≡◌, ◌≤◌, length, map, IfOk};
 ghost use Rattle.definitions.specs.Records.{words_of};
 ghost use Rattle.jobs_basic.specs.Index.{in_document, index_accepts, index_emits, index_joined, index_good, index_text, index_encoded};

@@ -1,4 +1,4 @@
-// Keeps the latest value.
+//! Keeps the latest value.
 ghost use Rattle.std.specs.Prelude.{◌≡◌, IfOk};
 ghost use Rattle.jobs_basic.specs.Latest.{latest_accepts, latest_emits, latest_joined, latest_good, latest_text, latest_encoded, latest_emits_good, latest_join_laws};
 

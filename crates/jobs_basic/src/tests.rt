@@ -1,4 +1,4 @@
-// The jobs as a program calls them, through the bound.
+//! The jobs as a program calls them, through the bound.
 ghost use Rattle.std.specs.Prelude.{◌≡◌, true};
 
 use crate::{Bytes, Count, Docs, Index, Latest};

@@ -1,4 +1,4 @@
-// The words of a text.
+//! The words of a text.
 ghost use Rattle.std.specs.Prelude.{◌≡◌, ◌≤◌, ◌++◌, ℕ, List, length, take, drop};
 ghost use Rattle.definitions.specs.Records.{is_word_byte, word_before, words_behind, words_of};
 ghost use Rattle.jobs_basic.specs.Words.{SplitsWord};

@@ -4,71 +4,71 @@ use Rattle.std.specs.declared.option.Option.TheVariants.{Some, None}
 use Rattle.definitions.specs.Records.{text_of}
 use Rattle.marker_chunker.specs.Markers.{is_marker}
 
--- the record that comes first, or else `next`
+-- The record that comes first, or else `next`.
 abbrev pub first_or : Option (List ℕ) → List (List ℕ) → Option (List ℕ)
 first_or next [] = next
 first_or next (r ∷ rs) = Some r
 
--- whether the last of these records is a marker; of no records, not
+-- Whether the last of these records is a marker; of no records, not.
 abbrev pub last_marks : List (List ℕ) → Bool
 last_marks [] = false
 last_marks (r ∷ []) = is_marker r
 last_marks (r ∷ s ∷ rs) = last_marks (s ∷ rs)
 
--- whether a chunk of so many bytes ends before a record of so many, where `marks` says that its last is a marker
+-- Whether a chunk of so many bytes ends before a record of so many, where `marks` says that its last is a marker.
 abbrev pub ends_by : Bool → ℕ → ℕ → Bool
 ends_by marks size more = (marks && nat_le 512 size) || nat_lt 65536 (size + (more + 1))
 
--- whether the chunk that these records begin ends behind them, where `next` follows
+-- Whether the chunk that these records begin ends behind them, where `next` follows.
 unfoldable pub ends : List (List ℕ) → Option (List ℕ) → Bool
 ends begun None = true
 ends begun (Some next) = ends_by (last_marks begun) (length (text_of begun)) (length next)
 
--- the chunks of the begun records with the others: a chunk is the shortest that ends
+-- The chunks of the begun records with the others: a chunk is the shortest that ends.
 unfoldable pub cut_on : List (List ℕ) → List (List ℕ) → List (List (List ℕ))
 cut_on begun [] = begun ∷ []
 cut_on begun (r ∷ rs) = cond (ends begun (Some r)) (begun ∷ cut_on (r ∷ []) rs) (cut_on (begun ++ r ∷ []) rs)
 
--- the chunks of a list of records, cut from nothing; no records have none
+-- The chunks of a list of records, cut from nothing; no records have none.
 unfoldable pub chunks_of : List (List ℕ) → List (List (List ℕ))
 chunks_of [] = []
 chunks_of (r ∷ rs) = cut_on (r ∷ []) rs
 
--- chunks end to end
+-- Chunks end to end.
 abbrev pub joined : List (List (List ℕ)) → List (List ℕ)
 joined [] = []
 joined (c ∷ cs) = c ++ joined cs
 
--- the begun records go on as these, end there and not before
+-- The begun records go on as these, end there and not before.
 abbrev pub GoesOn : List (List ℕ) → List (List ℕ) → Option (List ℕ) → Type 0
 GoesOn begun [] next = ends begun next ≡ true
 GoesOn begun (r ∷ rs) next = (ends begun (Some r) ≡ false) × GoesOn (begun ++ r ∷ []) rs next
 
--- the begun records did not end before
+-- The begun records did not end before.
 abbrev pub IsOpen : List (List ℕ) → List (List ℕ) → Type 0
 IsOpen begun [] = Unit {0}
 IsOpen begun (r ∷ rs) = (ends begun (Some r) ≡ false) × IsOpen (begun ++ r ∷ []) rs
 
--- these records are one chunk, where `next` follows: they end there and not before
+-- These records are one chunk, where `next` follows: they end there and not before.
 abbrev pub IsChunk : List (List ℕ) → Option (List ℕ) → Type 0
 IsChunk [] next = ⊥
 IsChunk (r ∷ rs) next = GoesOn (r ∷ []) rs next
 
--- these are chunks, one behind the other, where `next` follows
+-- These are chunks, one behind the other, where `next` follows.
 abbrev pub AreChunks : List (List (List ℕ)) → Option (List ℕ) → Type 0
 AreChunks [] next = Unit {0}
 AreChunks (c ∷ cs) next = IsChunk c (first_or next (joined cs)) × AreChunks cs next
 
--- how many records the first chunk has
+-- How many records the first chunk has.
 abbrev pub first_length : List (List (List ℕ)) → ℕ
 first_length [] = 0
 first_length (c ∷ cs) = length c
 
--- the places where chunks end, from a place on
+-- The places where chunks end, from a place on.
 abbrev pub places : ℕ → List (List (List ℕ)) → List ℕ
 places start [] = []
 places start (c ∷ cs) = (start + length c) ∷ places (start + length c) cs
 
--- how many records the first `i` chunks have
+-- How many records the first `i` chunks have.
 abbrev pub reach : ℕ → List (List (List ℕ)) → ℕ
 reach i cs = length (joined (take i cs))

@@ -1,4 +1,4 @@
-// Where chunks end.
+//! Where chunks end.
 ghost use Rattle.std.specs.Prelude.{◌≡◌, ◌<◌, ◌^◌, length, drop, IfOk};
 ghost use Rattle.marker_chunker.specs.Cuts.{ends_by, first_length, places, chunks_of};
 

@@ -1,4 +1,4 @@
-// Which records are markers.
+//! Which records are markers.
 ghost use Rattle.std.specs.Prelude.{◌≡◌, ◌&&◌, nat_lt};
 ghost use Rattle.marker_chunker.specs.Markers.{marks, is_marker};
 

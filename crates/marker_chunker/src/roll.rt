@@ -1,4 +1,4 @@
-// The rolling hash of a window.
+//! The rolling hash of a window.
 ghost use Rattle.std.specs.Prelude.{◌≡◌, ◌+◌, ◌*◌, ◌%◌, ◌^◌, ◌++◌, ◌∷◌, []};
 ghost use Rattle.marker_chunker.specs.Markers.{window_hash, last_bytes, marks};
 

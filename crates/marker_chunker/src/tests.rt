@@ -1,4 +1,4 @@
-// Tests of markers and cuts, with values worked by hand.
+//! Tests of markers and cuts, with values worked by hand.
 use crate::{Roll, cut_all, first_cut, is_marker};
 use record_text::{Records, is_record};
 use std::alloc::{AllocError, Global};

@@ -6,17 +6,17 @@ use Rattle.definitions.specs.Tables.{key_cmp, joined_all}
 use Rattle.record_text.specs.declared.script_fault.ScriptFault.{ScriptFault}
 use Rattle.record_text.specs.Script.{Ending, Faulty}
 
--- a key in its place among keys in byte order, once
+-- A key in its place among keys in byte order, once.
 abbrev pub key_among : List ℕ → List (List ℕ) → List (List ℕ)
 key_among k [] = k ∷ []
 key_among k (q ∷ qs) = by_order (key_cmp k q) (k ∷ q ∷ qs) (q ∷ qs) (q ∷ key_among k qs)
 
--- a value that stands, where one does, joined with others behind it
+-- A value that stands, where one does, joined with others behind it.
 abbrev pub joined_behind : {V : Type 0} → (V → V → V) → Option V → List V → Option V
 joined_behind join None vs = joined_all join vs
 joined_behind join (Some v) vs = Some (fold join v vs)
 
--- how a script ends that came so far: at a fault, or as its rest ends
+-- How a script ends that came so far: at a fault, or as its rest ends.
 abbrev pub ending_of_rest : Option ScriptFault → Ending → Ending
 ending_of_rest None ending = ending
 ending_of_rest (Some fault) ending = Faulty fault.line fault.why

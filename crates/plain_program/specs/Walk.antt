@@ -9,11 +9,11 @@ use Rattle.slider_session.specs.Output.{Meaning, Outcome, after_bytes, on_comman
 use Rattle.plain_program.specs.declared.walk.PlainWalk.{PlainWalk}
 
 module _ {V : Type 0} (j : Meaning V) where
-  -- what was written, and what the commands to come write, over the window as it is
+  -- What was written, and what the commands to come write, over the window as it is.
   abbrev pub walked_from : PlainWalk → List (Command × ℕ) → Ending → Outcome
   walked_from walk commands ending = after_bytes walk.written.items (outcome_from j walk.run walk.window commands ending)
 
-  -- a command on a line was carried out, or refused
+  -- A command on a line was carried out, or refused.
   abbrev pub Walks : PlainWalk → PlainWalk → Command → ℕ → Option ScriptFault → Type 0
   Walks old new c line None = (go : ℕ → WindowState → Outcome) → after_bytes old.written.items (on_command j old.run old.window c line go) ≡ after_bytes new.written.items (go new.run new.window)
   Walks old new c line (Some fault) = (go : ℕ → WindowState → Outcome) → after_bytes old.written.items (on_command j old.run old.window c line go) ≡ (new.written.items, Faulty fault.line fault.why)

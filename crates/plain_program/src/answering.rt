@@ -1,4 +1,4 @@
-// What one run writes.
+//! What one run writes.
 ghost use Rattle.std.specs.Prelude.{◌≡◌, ◌++◌, ◌∷◌, [], OnOk};
 ghost use Rattle.definitions.specs.Tables.{HasGoodValues, reduced, tabulate};
 ghost use Rattle.definitions.specs.Answer.{lines_of};

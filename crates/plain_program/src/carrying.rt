@@ -1,4 +1,4 @@
-// What a command makes of a window.
+//! What a command makes of a window.
 ghost use Rattle.std.specs.Prelude.{◌≡◌, ◌≤◌, ◌<◌, ◌+◌, false, drop, length, IfOk, OnOk};
 ghost use Rattle.chunk_store.specs.Documents.{spliced};
 ghost use Rattle.chunk_store.specs.Files.{with_file};

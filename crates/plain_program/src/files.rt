@@ -1,4 +1,4 @@
-// The files of a document.
+//! The files of a document.
 ghost use Rattle.std.specs.Prelude.{◌≡◌, ◌++◌, ◌∷◌, [], IfOk, OnOk};
 ghost use Rattle.marker_chunker.specs.Cuts.{joined};
 ghost use Rattle.chunk_store.specs.Files.{all_chunks, file_at, greater, smaller, with_file};

@@ -1,4 +1,4 @@
-// The distinct keys of pairs.
+//! The distinct keys of pairs.
 ghost use Rattle.std.specs.Prelude.{◌≡◌, IfOk, OnOk};
 ghost use Rattle.definitions.specs.Tables.{keys_of};
 ghost use Rattle.plain_program.specs.Plain.{key_among};

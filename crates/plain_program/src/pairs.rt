@@ -1,4 +1,4 @@
-// All pairs of a window.
+//! All pairs of a window.
 ghost use Rattle.std.specs.Prelude.{◌≡◌, ◌++◌, All, IsTrue, IfOk, OnOk};
 ghost use Rattle.definitions.specs.Answer.{pairs_of};
 ghost use Rattle.marker_chunker.specs.Cuts.{joined};

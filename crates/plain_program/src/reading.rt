@@ -1,4 +1,4 @@
-// The commands of a whole script.
+//! The commands of a whole script.
 ghost use Rattle.std.specs.Prelude.{◌≡◌, ◌<◌, ◌≤◌, ◌^◌, All, IfOk};
 ghost use Rattle.record_text.specs.Script.{commands, Done};
 ghost use Rattle.plain_program.specs.Plain.{ending_of_rest};

@@ -1,4 +1,4 @@
-// Lists of records, put together and cut.
+//! Lists of records, put together and cut.
 ghost use Rattle.std.specs.Prelude.{◌≡◌, ◌≤◌, ◌+◌, ◌-◌, ◌++◌, take, drop, length, IfOk, OnOk};
 ghost use Rattle.marker_chunker.specs.Cuts.{chunks_of, joined};
 ghost use Rattle.chunk_store.specs.Documents.{spliced};

@@ -1,4 +1,4 @@
-// What the pairs of one key reduce to.
+//! What the pairs of one key reduce to.
 ghost use Rattle.std.specs.Prelude.{◌≡◌, None, Some, IfOk, IfSome};
 ghost use Rattle.definitions.specs.Tables.{HasGoodValues, reduced};
 

@@ -1,4 +1,4 @@
-// Why a window refuses a command.
+//! Why a window refuses a command.
 ghost use Rattle.std.specs.Prelude.{◌≡◌, ◌<◌, None, IfOk, IfSome, nat_lt, length};
 ghost use Rattle.definitions.specs.Records.{text_of};
 ghost use Rattle.marker_chunker.specs.Cuts.{joined};

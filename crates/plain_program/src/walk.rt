@@ -1,4 +1,4 @@
-// How far a walk over commands is.
+//! How far a walk over commands is.
 ghost use Rattle.std.specs.Prelude.{◌≡◌, []};
 ghost use Rattle.window_manager.specs.Windows.{empty_window};
 

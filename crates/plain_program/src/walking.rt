@@ -1,4 +1,4 @@
-// What is written for a script.
+//! What is written for a script.
 ghost use Rattle.std.specs.Prelude.{◌≡◌, ◌<◌, ◌≤◌, ◌+◌, ◌^◌, ℕ, None, All, IfOk};
 ghost use Rattle.record_text.specs.declared.command.Command.TheVariants.{Run};
 ghost use Rattle.record_text.specs.Script.{Ending, Done, Faulty, commands};

@@ -1,4 +1,4 @@
-// A window as plain lists.
+//! A window as plain lists.
 ghost use Rattle.std.specs.Prelude.{◌≡◌, IfOk};
 ghost use Rattle.window_manager.specs.Windows.{empty_window};
 

@@ -5,11 +5,11 @@ use Rattle.clap.specs.Walk.{Rule}
 use Rattle.clap.specs.Simple.{App, new_app, new_rule, on_top, with_rule}
 use Rattle.program_words.specs.WellFormed.{Text}
 
--- an option with one value
+-- An option with one value.
 abbrev pub option_rule : Text → Rule
 option_rule name = record (new_rule name) { long = Some name }
 
--- the program with nothing but its options
+-- The program with nothing but its options.
 abbrev pub slider_app : App
 slider_app =
     with_rule (with_rule (with_rule (with_rule (with_rule (with_rule

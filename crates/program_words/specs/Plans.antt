@@ -15,7 +15,7 @@ use Rattle.program_words.specs.declared.plan.Field.{Field}
 use Rattle.program_words.specs.declared.plan.Field.TheVariants as fields
 use Rattle.program_words.specs.WellFormed.{Text, Item, items_of, value_of}
 
--- the jobs and their names
+-- The jobs and their names.
 abbrev pub job_named : Text → Option JobName
 job_named name =
     if bytes_eq name (codes "count") then Some jobs.Count
@@ -24,7 +24,7 @@ job_named name =
     else if bytes_eq name (codes "latest") then Some jobs.Latest
     else None
 
--- the trees and their names
+-- The trees and their names.
 abbrev pub tree_named : Text → Option TreeName
 tree_named name =
     if bytes_eq name (codes "folding") then Some trees.Folding
@@ -33,37 +33,37 @@ tree_named name =
     else if bytes_eq name (codes "coalescing") then Some trees.Coalescing
     else None
 
--- the number from 1 to `most` that a text is
+-- The number from 1 to `most` that a text is.
 abbrev pub number_within : ℕ → Text → Option ℕ
 number_within most text =
     if is_number text && nat_le 1 (digits_value text) && nat_le (digits_value text) most then Some (digits_value text) else None
 
--- the number from 1 to `most` that a value is, or the default where none is given
+-- The number from 1 to `most` that a value is, or the default where none is given.
 abbrev pub number_or : ℕ → ℕ → Option Text → Option ℕ
 number_or default most None = Some default
 number_or default most (Some text) = number_within most text
 
--- the seed that a value is, or that there is none
+-- The seed that a value is, or that there is none.
 abbrev pub seed_or_none : Option Text → Option (Option ℕ)
 seed_or_none None = Some None
 seed_or_none (Some text) = if is_number text then Some (Some (digits_value text)) else None
 
--- what a value that must be given is in its table
+-- What a value that must be given is in its table.
 abbrev pub given : {A : Type 0} → (Text → Option A) → Option Text → Option A
 given named None = None
 given named (Some name) = named name
 
--- `latest` takes the last of its values in the window's order, and a rotating tree joins them in the order of their places
+-- `latest` takes the last of its values in the window's order, and a rotating tree joins them in the order of their places.
 abbrev pub joins_out_of_order : JobName → TreeName → Bool
 joins_out_of_order jobs.Latest trees.Rotating = true
 joins_out_of_order job tree = false
 
--- what is there, or the refusal of its field
+-- What is there, or the refusal of its field.
 abbrev pub demand : {A : Type 0} → Field → Option A → (A → Result Plan Field) → Result Plan Field
 demand field None next = Err field
 demand field (Some found) next = next found
 
--- the values of the options, where they are given
+-- The values of the options, where they are given.
 pub record Given : Type 0 where
   pub job : Option Text
   pub k : Option Text
@@ -72,7 +72,7 @@ pub record Given : Type 0 where
   pub parts : Option Text
   pub generate : Option Text
 
--- what the values ask for, or the first field that is refused
+-- What the values ask for, or the first field that is refused.
 abbrev pub plan_by : Given → Result Plan Field
 plan_by v =
     demand fields.Job (given job_named v.job) (λ job.
@@ -91,7 +91,7 @@ plan_by v =
       then = false;
     })))))))
 
--- the values of the options among these
+-- The values of the options among these.
 abbrev pub given_by : List Item → Given
 given_by items = record {
   job = value_of items (codes "job");
@@ -102,23 +102,23 @@ given_by items = record {
   generate = value_of items (codes "gen");
 }
 
--- what the words ask for, or the first field that is refused
+-- What the words ask for, or the first field that is refused.
 unfoldable pub plan_of : List Text → Result Plan Field
 plan_of words = demand fields.Words (items_of words) (λ items. plan_by (given_by items))
 
--- the numbers of a plan are within their limits
+-- The numbers of a plan are within their limits.
 pub record IsWithin (plan : Plan) : Type 0 where
   pub k : (1 ≤ plan.k) × (plan.k ≤ 1000)
   pub settings : AreWithin plan.settings
 
--- the kind of window that a tree is for
+-- The kind of window that a tree is for.
 abbrev pub kind_of : TreeName → Kind
 kind_of trees.Folding = Kinds.Buckets
 kind_of trees.Random = Kinds.Document
 kind_of trees.Rotating = Kinds.Circle
 kind_of trees.Coalescing = Kinds.Growing
 
--- the values, as the code has them
+-- The values, as the code has them.
 abbrev pub values_as_text : Values → Given
 values_as_text v = record {
   job = option_map (λ text. text.now) v.job;

@@ -6,7 +6,7 @@ use Rattle.program_words.specs.declared.plan.Field.TheVariants.{Words, Job, K, T
 use Rattle.program_words.specs.declared.usage.WordsFault.{WordsFault}
 use Rattle.program_words.specs.declared.usage.WordsFault.TheVariants.{Usage, Mem}
 
--- the word of a field
+-- The word of a field.
 abbrev pub usage_word : Field → List ℕ
 usage_word Words = codes "words"
 usage_word Job = codes "job"
@@ -16,11 +16,11 @@ usage_word Buckets = codes "buckets"
 usage_word Parts = codes "parts"
 usage_word Gen = codes "gen"
 
--- the line for a field
+-- The line for a field.
 abbrev pub line_for : Field → List ℕ
 line_for field = codes "usage " ++ usage_word field ++ codes "\n"
 
--- a refusal is the one that the words deserve; want of memory may come at any time
+-- A refusal is the one that the words deserve; want of memory may come at any time.
 abbrev pub IsRefusalOf : Result Plan Field → WordsFault → Type 0
 IsRefusalOf asked (Usage field) = asked ≡ Err field
 IsRefusalOf asked Mem = Unit {0}

@@ -5,81 +5,81 @@ use Rattle.std.specs.Option.{option_map_or}
 use Rattle.std.specs.declared.option.Option.TheVariants.{Some, None}
 use Rattle.std.specs.Borrow.{Bor}
 
--- a word, as its bytes
+-- A word, as its bytes.
 abbrev pub Text : Type 0
 Text = List ℕ
 
--- the names of the options, each of which takes a value
+-- The names of the options, each of which takes a value.
 abbrev pub option_names : List Text
 option_names = codes "job" ∷ codes "k" ∷ codes "tree" ∷ codes "buckets" ∷ codes "parts" ∷ codes "gen" ∷ []
 
--- whether these bytes are the name of an option, whole
+-- Whether these bytes are the name of an option, whole.
 unfoldable pub is_option : Text → Bool
 is_option name = list_any (λ n. bytes_eq name n) option_names
 
--- a word stands nowhere where it is empty, `-` or `--`, or ends in `=` (61)
+-- A word stands nowhere where it is empty, `-` or `--`, or ends in `=` (61).
 abbrev pub is_stray : Text → Bool
 is_stray word = option_map_or (λ b. b == 61) (slice_get word (length word - 1)) true || bytes_eq word (codes "-") || bytes_eq word (codes "--")
 
--- a word begins with `-` (45)
+-- A word begins with `-` (45).
 abbrev pub begins_with_dash : Text → Bool
 begins_with_dash [] = false
 begins_with_dash (b ∷ bs) = b == 45
 
--- what stands behind the two dashes at a word's front
+-- What stands behind the two dashes at a word's front.
 abbrev pub behind_dashes : Text → Option Text
 behind_dashes (a ∷ b ∷ text) = if a == 45 && b == 45 then Some text else None
 behind_dashes word = None
 
--- what stands before the first `=`, and what stands behind it where there is one
+-- What stands before the first `=`, and what stands behind it where there is one.
 abbrev pub name_and_value : Text → Text × Option Text
 name_and_value text = (
   before_first (λ b. b == 61) text,
   if list_any (λ b. b == 61) text then Some (after_first (λ b. b == 61) text) else None,
 )
 
--- the name behind a word's two dashes, and the value that stands in the same word
+-- The name behind a word's two dashes, and the value that stands in the same word.
 abbrev pub option_in : Text → Option (Text × Option Text)
 option_in word = option_map name_and_value (behind_dashes word)
 
--- an option and its value
+-- An option and its value.
 abbrev pub Item : Type 0
 Item = Text × Text
 
--- one option more at the front
+-- One option more at the front.
 abbrev pub with_item : Text → Text → Option (List Item) → Option (List Item)
 with_item name value = option_map (λ items. (name, value) ∷ items)
 
--- the name was met before
+-- The name was met before.
 abbrev pub is_met : List Text → Text → Bool
 is_met met name = list_any (λ n. bytes_eq n name) met
 
--- an option that has its value in the same word, or waits for the next one; `next` reads the words behind
+-- An option that has its value in the same word, or waits for the next one; `next` reads the words behind.
 abbrev pub begun : List Text → Text → Option Text → (List Text → Option Text → Option (List Item)) → Option (List Item)
 begun met name None next = next (met ++ name ∷ []) (Some name)
 begun met name (Some value) next = with_item name value (next (met ++ name ∷ []) None)
 
--- a word where none waits for its value: it is an option that was not met before
+-- A word where none waits for its value: it is an option that was not met before.
 abbrev pub met_option : List Text → Option (Text × Option Text) → (List Text → Option Text → Option (List Item)) → Option (List Item)
 met_option met None next = None
 met_option met (Some option) next = if is_option option.0 && not (is_met met option.0) then begun met option.0 option.1 next else None
 
--- the options that the words give, where these names were met before them and this one waits for its value, or none where
--- the words are not well formed
+-- The options that the words give, where these names were met before them and this one waits for its value, or none where
+-- the words are not well formed.
 abbrev pub scan : List Text → Option Text → List Text → Option (List Item)
 scan met None [] = Some []
 scan met (Some name) [] = None
 scan met None (word ∷ rest) = if is_stray word then None else met_option met (option_in word) (λ more waiting. scan more waiting rest)
 scan met (Some name) (word ∷ rest) = if is_stray word || begins_with_dash word then None else with_item name word (scan met None rest)
 
--- the options that the words give, each with its value, in the words' order; none where the words are not well formed
+-- The options that the words give, each with its value, in the words' order; none where the words are not well formed.
 unfoldable pub items_of : List Text → Option (List Item)
 items_of words = scan [] None words
 
--- the value of an option
+-- The value of an option.
 abbrev pub value_of : List Item → Text → Option Text
 value_of items name = option_map (λ item. item.1) (find (λ item. bytes_eq item.0 name) items)
 
--- a name and its value, as the code has them
+-- A name and its value, as the code has them.
 abbrev pub as_texts : Bor Text × Option (Bor Text) → Text × Option Text
 as_texts o = (o.0.now, option_map (λ v. v.now) o.1)

@@ -1,4 +1,4 @@
-// The values of the options of the command line, as `clap` reads them, and the plan that the words ask for.
+//! The values of the options of the command line, as `clap` reads them, and the plan that the words ask for.
 ghost use Rattle.std.specs.Prelude.{◌≡◌, ℕ, List, codes, IfErr, IfOk, Ok, Some, None, false, map, string_bytes};
 ghost use Rattle.clap.specs.Words.{app_of, new_rule, rule_of};
 ghost use Rattle.program_words.specs.WellFormed.{Item, items_of};

@@ -1,4 +1,4 @@
-// What the words of the command line ask for.
+//! What the words of the command line ask for.
 ghost use Rattle.std.specs.Prelude.{◌≡◌, ◌≤◌, IfOk, IfSome, option_map};
 ghost use Rattle.program_words.specs.Plans.{job_named, tree_named, number_within, number_or, seed_or_none, plan_by, values_as_text, kind_of, IsWithin};
 

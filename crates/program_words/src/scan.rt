@@ -1,4 +1,4 @@
-// Whether the words of the command line are well formed.
+//! Whether the words of the command line are well formed.
 ghost use Rattle.std.specs.Prelude.{◌≡◌, ◌&&◌, not, List, ℕ, ◌∷◌, IfOk, Some, map, is_some, option_map, string_bytes};
 ghost use Rattle.program_words.specs.WellFormed.{is_stray, begins_with_dash, is_option, is_met, behind_dashes, name_and_value, as_texts, met_option, scan, items_of};
 

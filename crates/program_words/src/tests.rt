@@ -1,4 +1,4 @@
-// The words of the command line.
+//! The words of the command line.
 
 use crate::options::read_words;
 use crate::plan::{JobName, Plan, TreeName};

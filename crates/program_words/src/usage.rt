@@ -1,4 +1,4 @@
-// The line for words that are refused.
+//! The line for words that are refused.
 ghost use Rattle.std.specs.Prelude.{◌≡◌};
 ghost use Rattle.program_words.specs.Usages.{line_for};
 

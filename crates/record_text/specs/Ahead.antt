@@ -1,11 +1,11 @@
 -- Bytes that were taken from a source and not used yet.
 use Rattle.std.specs.Prelude.{◌≢◌, ℕ, ◌<◌, ◌≤◌, List, length, drop, slice_index}
 
--- the first `seen` of these bytes are no LF
+-- The first `seen` of these bytes are no LF.
 abbrev pub NoneBefore : ℕ → List ℕ → Type 0
 NoneBefore seen bytes = (k : ℕ) → k < seen → slice_index bytes k ≢ 10
 
--- from place `at` on `held` is ahead, and its first `seen` bytes are known to be no LF
+-- From place `at` on `held` is ahead, and its first `seen` bytes are known to be no LF.
 pub record IsHeld (held : List ℕ) (at seen : ℕ) : Type 0 where
   pub within : at ≤ length held
   pub searched : seen ≤ length (drop at held)

@@ -2,24 +2,24 @@
 use Rattle.std.specs.Prelude.{◌≡◌, ℕ, ◌==◌, if◌then◌else◌, List, [], ◌∷◌}
 use Rattle.definitions.specs.Records.{text_of}
 
--- one byte more at the front of the first line, or of the rest where no line ends
+-- One byte more at the front of the first line, or of the rest where no line ends.
 abbrev pub with_byte : ℕ → List (List ℕ) × List ℕ → List (List ℕ) × List ℕ
 with_byte b ([], rest) = ([], b ∷ rest)
 with_byte b (l ∷ ls, rest) = ((b ∷ l) ∷ ls, rest)
 
--- the pieces that an LF ends, and the rest behind the last LF
+-- The pieces that an LF ends, and the rest behind the last LF.
 abbrev pub pieces : List ℕ → List (List ℕ) × List ℕ
 pieces [] = ([], [])
 pieces (b ∷ bs) = if b == 10 then ([] ∷ (pieces bs).0, (pieces bs).1) else with_byte b (pieces bs)
 
--- nothing stands behind the last LF of these bytes
+-- Nothing stands behind the last LF of these bytes.
 abbrev pub EndsLine : List ℕ → Type 0
 EndsLine bytes = (pieces bytes).1 ≡ []
 
--- these bytes have no LF
+-- These bytes have no LF.
 abbrev pub HasNoLine : List ℕ → Type 0
 HasNoLine bytes = pieces bytes ≡ ([], bytes)
 
--- the bytes up to their last LF
+-- The bytes up to their last LF.
 unfoldable pub whole_lines : List ℕ → List ℕ
 whole_lines bytes = text_of (pieces bytes).0

@@ -4,10 +4,10 @@ use Rattle.std.specs.declared.cmp.Ordering.{Ordering}
 use Rattle.std.specs.Ordering.{nat_cmp}
 use Rattle.std.specs.Cmp.Lexicographic.{slice_cmp}
 
--- a name has at most 255 bytes, and none of them is a space or LF
+-- A name has at most 255 bytes, and none of them is a space or LF.
 abbrev pub IsName : List ℕ → Type 0
 IsName bytes = (length bytes ≤ 255) × All (λ b. b ≢ 32) bytes × All (λ b. b ≢ 10) bytes
 
--- the byte order of names
+-- The byte order of names.
 abbrev pub name_cmp : List ℕ → List ℕ → Ordering
 name_cmp = slice_cmp nat_cmp

@@ -9,34 +9,34 @@ use Rattle.record_text.specs.declared.script_fault.Why.TheVariants.{ShortInput, 
 use Rattle.record_text.specs.declared.table.Head.{Head}
 use Rattle.record_text.specs.declared.table.Asked.TheVariants.{Asks, Refuses}
 
--- the end of the whole script, or the first fault with its line
+-- The end of the whole script, or the first fault with its line.
 pub data Ending : Type 0 where
   Done : Ending
   Faulty : ℕ → Why → Ending
 
--- commands, each with its line, and what ends them
+-- Commands, each with its line, and what ends them.
 abbrev pub Script : Type 0
 Script = List (Command × ℕ) × Ending
 
--- a script with one command more at its front
+-- A script with one command more at its front.
 abbrev pub with_command : Command × ℕ → Script → Script
 with_command c s = (c ∷ s.0, s.1)
 
--- the records of one command may have 268435456 bytes of text
+-- The records of one command may have 268435456 bytes of text.
 abbrev pub fits_command : List (List ℕ) → Bool
 fits_command records = nat_le (length (text_of records)) 268435456
 
--- what comes next: a command line, or a record line. The command on line `at` still waits for so many others behind it
+-- What comes next: a command line, or a record line. The command on line `at` still waits for so many others behind it.
 pub data Awaits : Type 0 where
   ACommand : Awaits
   ARecord : (at : ℕ) (head : Head) (others : ℕ) (got : List (List ℕ)) → Awaits
 
--- the command on line `at` is whole once it waits for no record line
+-- The command on line `at` is whole once it waits for no record line.
 abbrev pub after_records : ℕ → Head → ℕ → List (List ℕ) → (Awaits → Script) → Script
 after_records at head zero got go = with_command (command_of head got, at) (go ACommand)
 after_records at head (suc n) got go = go (ARecord at head n got)
 
--- a line, where `go` says how the script goes on behind it
+-- A line, where `go` says how the script goes on behind it.
 abbrev pub step : Awaits → ℕ → List ℕ → (Awaits → Script) → Script
 step ACommand num line go = elim (asked line) [
   | Asks head n ↦ after_records num head n [] go
@@ -45,13 +45,13 @@ step ACommand num line go = elim (asked line) [
 step (ARecord at head others got) num line go =
     if fits_command (got ++ line ∷ []) then after_records at head others (got ++ line ∷ []) go else ([], Faulty at WindowLarge)
 
--- the script ends where a line would come
+-- The script ends where a line would come.
 abbrev pub finish : Awaits → Script
 finish ACommand = ([], Done)
 finish (ARecord at head others got) = ([], Faulty at ShortInput)
 
--- the commands of lines from line `num` on and of the rest behind the last LF. `full`: the script goes on past these
--- bytes, so that its first `most` bytes are all that count
+-- The commands of lines from line `num` on and of the rest behind the last LF. `full`: the script goes on past these
+-- bytes, so that its first `most` bytes are all that count.
 abbrev pub walk : Bool → Awaits → ℕ → List (List ℕ) → List ℕ → Script
 walk full awaits num [] rest =
     if nat_le 65536 (length rest) then ([], Faulty num LongLine)
@@ -62,10 +62,10 @@ walk full awaits num (line ∷ lines) rest =
     if nat_le 65536 (length line) then ([], Faulty num LongLine)
     else step awaits num line (λ next. walk full next (num + 1) lines rest)
 
--- the commands of these bytes, whose first line has the number `num`
+-- The commands of these bytes, whose first line has the number `num`.
 unfoldable pub from_line : Bool → Awaits → ℕ → List ℕ → Script
 from_line full awaits num bytes = walk full awaits num (pieces bytes).0 (pieces bytes).1
 
--- the commands of a script of which the first `most` bytes count
+-- The commands of a script of which the first `most` bytes count.
 unfoldable pub commands : ℕ → List ℕ → Script
 commands most script = from_line (nat_le most (length script)) ACommand 1 (take most script)

@@ -3,19 +3,19 @@ use Rattle.std.specs.Prelude.{◌≡◌, ℕ, ◌-◌, ◌≤◌, List, length, 
 use Rattle.definitions.specs.Records.{AllRecords, text_of}
 use Rattle.record_text.specs.declared.records.Span.{Span}
 
--- the bytes of a span
+-- The bytes of a span.
 abbrev pub cut : List ℕ → Span → List ℕ
 cut text span = take (span.to - span.from) (drop span.from text)
 
--- the bytes of each span
+-- The bytes of each span.
 abbrev pub cuts : List ℕ → List Span → List (List ℕ)
 cuts text spans = map (cut text) spans
 
--- a span lies in a text of this length
+-- A span lies in a text of this length.
 abbrev pub LiesIn : ℕ → Span → Type 0
 LiesIn size span = (span.from ≤ span.to) × (span.to ≤ size)
 
--- the text is that of the records in it
+-- The text is that of the records in it.
 pub record IsText (text : List ℕ) (spans : List Span) : Type 0 where
   pub inside : All (LiesIn (length text)) spans
   pub records : AllRecords (cuts text spans)

@@ -13,7 +13,7 @@ use Rattle.record_text.specs.declared.table.Head.TheVariants.{OfBucket, OfDrop, 
 use Rattle.record_text.specs.declared.table.Asked.{Asked}
 use Rattle.record_text.specs.declared.table.Asked.TheVariants.{Asks, Refuses}
 
--- the command words
+-- The command words.
 abbrev pub word_of : List ℕ → Option Word
 word_of bytes =
     if bytes_eq bytes (codes "bucket") then Some Words.Bucket
@@ -26,12 +26,12 @@ word_of bytes =
     else if bytes_eq bytes (codes "run") then Some Words.Run
     else None
 
--- a row asks for a command by its fields, or refuses them
+-- A row asks for a command by its fields, or refuses them.
 abbrev pub row : {A : Type 0} → Result A Why → (A → Asked) → Asked
 row (Ok fields) asks = asks fields
 row (Err why) asks = Refuses why
 
--- the table: a command word and its fields ask for a command with so many record lines
+-- The table: a command word and its fields ask for a command with so many record lines.
 abbrev pub row_of : Word → List (List ℕ) → Asked
 row_of Words.Bucket fields = row (one_number fields) (λ n. Asks OfBucket n)
 row_of Words.Drop fields = row (one_number fields) (λ n. Asks (OfDrop n) 0)
@@ -42,21 +42,21 @@ row_of Words.Edit fields = row (three_numbers fields) (λ at_del_n. Asks (OfEdit
 row_of Words.Load fields = row (one_number fields) (λ n. Asks OfLoad n)
 row_of Words.Run fields = row (no_field fields) (λ none. Asks OfRun 0)
 
--- the row of a word, where the table has it
+-- The row of a word, where the table has it.
 abbrev pub row_at : Option Word → List (List ℕ) → Asked
 row_at None fields = Refuses Unknown
 row_at (Some word) fields = row_of word fields
 
--- the first field is the command word
+-- The first field is the command word.
 abbrev pub asked_by : List (List ℕ) → Asked
 asked_by [] = Refuses Unknown
 asked_by (word ∷ fields) = row_at (word_of word) fields
 
--- what a command line asks for
+-- What a command line asks for.
 unfoldable pub asked : List ℕ → Asked
 asked line = asked_by (fields_of line)
 
--- the command, once all its record lines were read
+-- The command, once all its record lines were read.
 abbrev pub command_of : Head → List (List ℕ) → Command
 command_of OfBucket got = Bucket got
 command_of (OfDrop n) got = Drop n
@@ -67,7 +67,7 @@ command_of (OfEdit at del) got = Edit at del got
 command_of OfLoad got = Load got
 command_of OfRun got = Run
 
--- a command line is refused for its form alone
+-- A command line is refused for its form alone.
 abbrev pub RefusesForm : Asked → Type 0
 RefusesForm (Asks head n) = Unit {0}
 RefusesForm (Refuses why) = IsForm why

@@ -1,4 +1,4 @@
-// Bytes that were taken from a source and not used yet.
+//! Bytes that were taken from a source and not used yet.
 ghost use Rattle.std.specs.Prelude.{◌≡◌, ◌≢◌, ◌<◌, ◌≤◌, ◌+◌, ◌++◌, ◌⊎◌, [], ℕ, length, take, drop, slice_index, IfOk, IfErr, OnOk, OnErr, IsErrOf};
 ghost use Rattle.definitions.specs.Outside.{Told, Rose};
 ghost use Rattle.record_text.specs.Ahead.{NoneBefore};

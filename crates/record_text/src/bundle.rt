@@ -1,4 +1,4 @@
-// Shared records.
+//! Shared records.
 ghost use Rattle.std.specs.Prelude.{◌≡◌, IfOk};
 
 use crate::Records;

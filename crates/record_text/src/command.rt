@@ -1,4 +1,4 @@
-// The commands of a script.
+//! The commands of a script.
 use crate::{Name, Records};
 
 /// One command of a script. Numbers are those of its line, and records those of its record lines.

@@ -1,4 +1,4 @@
-// The fields of a command line.
+//! The fields of a command line.
 ghost use Rattle.std.specs.Prelude.{◌≡◌, All, IfErr, IfOk};
 ghost use Rattle.record_text.specs.Fields.{SplitsField, OneField, TwoFields, ThreeFields, IsField, IsForm, fields_behind, no_field, one_number, two_numbers, three_numbers, one_name};
 

@@ -1,4 +1,4 @@
-// The kinds of windows.
+//! The kinds of windows.
 
 /// How a window forgets: by commands, in a circle of places, never, or as an edited document.
 #[derive(Clone, Copy, Debug, PartialEq, Eq)]

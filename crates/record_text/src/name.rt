@@ -1,4 +1,4 @@
-// Names of files.
+//! Names of files.
 ghost use Rattle.std.specs.Prelude.{◌≡◌, ◌↔◌, [], IsTrue, IfOk};
 ghost use Rattle.record_text.specs.Names.{IsName, name_cmp};
 

@@ -1,4 +1,4 @@
-// Numbers in scripts.
+//! Numbers in scripts.
 ghost use Rattle.std.specs.Prelude.{◌≡◌, ◌≤◌, length, take, drop, decimal, IsTrue, SomeIff};
 ghost use Rattle.definitions.specs.Numbers.{is_number, digits_value};
 

@@ -1,4 +1,4 @@
-// How far a reader is.
+//! How far a reader is.
 ghost use Rattle.std.specs.Prelude.{◌≡◌};
 ghost use Rattle.record_text.specs.Reading.{FoundIs};
 

@@ -1,4 +1,4 @@
-// Lists of records.
+//! Lists of records.
 ghost use Rattle.std.specs.Prelude.{◌≡◌, ◌<◌, ◌≤◌, ◌++◌, ◌∷◌, [], ◌↔◌, length, IfOk, OnOk, OnErr, IsTrue, slice_index_or};
 ghost use Rattle.definitions.specs.Records.{IsRecord, AllRecords, text_of};
 

@@ -1,4 +1,4 @@
-// Why a script ends before its end.
+//! Why a script ends before its end.
 
 /// Why a script ends before its end.
 #[derive(Clone, Copy, Debug, PartialEq, Eq)]

@@ -1,4 +1,4 @@
-// Reads the commands of a script from a source.
+//! Reads the commands of a script from a source.
 ghost use Rattle.std.specs.Prelude.{◌≡◌, ◌≢◌, ◌<◌, ◌≤◌, ◌+◌, ◌-◌, ◌^◌, ◌++◌, ◌⊎◌, [], ℕ, List, length, take, true, false, IfOk, IfErr, IsErrOf, IsSome, None, Some, Err};
 ghost use Rattle.definitions.specs.Outside.{Told, Rose};
 ghost use Rattle.record_text.specs.Script.{commands};

@@ -1,4 +1,4 @@
-// Tests of scripts, with answers written by hand.
+//! Tests of scripts, with answers written by hand.
 ghost use Rattle.std.specs.Prelude.{◌<◌, ◌≤◌, ◌^◌};
 
 use crate::{Command, ScriptReader};

@@ -1,4 +1,4 @@
-// How a list of leaves changed.
+//! How a list of leaves changed.
 use crate::Places;
 
 /// How the leaves of a window changed since its last run.

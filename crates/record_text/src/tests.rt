@@ -1,4 +1,4 @@
-// Tests of records, numbers, names and places, with values written by hand.
+//! Tests of records, numbers, names and places, with values written by hand.
 use crate::{Bundle, Name, Places, Records, is_name, is_record, parse_number, print_number};
 use std::alloc::{AllocError, Global};
 use std::cmp::Ordering;

@@ -1,4 +1,4 @@
-// The words of commands.
+//! The words of commands.
 ghost use Rattle.std.specs.Prelude.{◌≡◌};
 ghost use Rattle.record_text.specs.Table.{word_of};
 

@@ -6,88 +6,88 @@ use Rattle.program_words.specs.declared.plan.TreeName.{TreeName}
 use Rattle.program_words.specs.declared.plan.TreeName.TheVariants as trees
 use Rattle.script_generator.specs.Draws.{next_state, drawn}
 
--- what is written so far, the state that the next draw begins from, and how many records are written
+-- What is written so far, the state that the next draw begins from, and how many records are written.
 pub record Draft : Type 0 where
   pub text : List ℕ
   pub state : ℕ
   pub records : ℕ
 
--- a draft goes on by a step
+-- A draft goes on by a step.
 infixl 10 ◌▷◌
 abbrev pub ◌▷◌ : Draft → (Draft → Draft) → Draft
 d ▷ step = step d
 
--- it goes on by a step so many times
+-- It goes on by a step so many times.
 unfoldable pub times : ℕ → (Draft → Draft) → Draft → Draft
 times zero step d = d
 times (suc n) step d = times n step d ▷ step
 
--- bytes are written
+-- Bytes are written.
 abbrev pub with_bytes : List ℕ → Draft → Draft
 with_bytes bytes d = record { text = d.text ++ bytes; state = d.state; records = d.records }
 
--- a number below m is drawn and written
+-- A number below m is drawn and written.
 abbrev pub with_drawn : ℕ → Draft → Draft
 with_drawn m d = record { text = d.text ++ decimal (drawn m d.state); state = next_state d.state; records = d.records }
 
--- a field: these bytes, and a drawn number behind them
+-- A field: these bytes, and a drawn number behind them.
 unfoldable pub with_field : List ℕ → ℕ → Draft → Draft
 with_field front m d = d ▷ with_bytes front ▷ with_drawn m
 
--- eight words, with a space between
+-- Eight words, with a space between.
 unfoldable pub with_words : Draft → Draft
 with_words d = d ▷ with_field (codes "w") 5000 ▷ times 7 (with_field (codes " w") 5000)
 
--- what a record of a job is, by its draws from left to right; one of `index` begins with its own number
+-- What a record of a job is, by its draws from left to right; one of `index` begins with its own number.
 unfoldable pub with_fields : JobName → Draft → Draft
 with_fields jobs.Count d = d ▷ with_words
 with_fields jobs.Index d = d ▷ with_bytes (decimal d.records) ▷ with_bytes (codes "\t") ▷ with_words
 with_fields jobs.Latest d = d ▷ with_field (codes "k") 2000 ▷ with_field (codes "\tv") 1000000
 with_fields jobs.TopK d = d ▷ with_field (codes "g") 50 ▷ with_field (codes "\t") 100000 ▷ with_field (codes "\ti") 2000
 
--- the end of a record's line: there is one record more
+-- The end of a record's line: there is one record more.
 abbrev pub with_end : Draft → Draft
 with_end d = record { text = d.text ++ codes "\n"; state = d.state; records = d.records + 1 }
 
--- a record and its LF
+-- A record and its LF.
 unfoldable pub with_record : JobName → Draft → Draft
 with_record job d = d ▷ with_fields job ▷ with_end
 
--- whether a round begins by dropping the oldest bucket: with a folding tree each one behind the 24th
+-- Whether a round begins by dropping the oldest bucket: with a folding tree each one behind the 24th.
 abbrev pub drops : TreeName → ℕ → Bool
 drops trees.Folding round = nat_lt 24 round
 drops tree round = false
 
--- a bucket of 2000 records and a run
+-- A bucket of 2000 records and a run.
 unfoldable pub with_bucket : JobName → Draft → Draft
 with_bucket job d = d ▷ with_bytes (codes "bucket 2000\n") ▷ times 2000 (with_record job) ▷ with_bytes (codes "run\n")
 
--- a round: the oldest bucket is dropped, where it is, and then there is a bucket and a run
+-- A round: the oldest bucket is dropped, where it is, and then there is a bucket and a run.
 unfoldable pub with_round : JobName → TreeName → ℕ → Draft → Draft
 with_round job tree round d = (if drops tree round then d ▷ with_bytes (codes "drop 1\n") else d) ▷ with_bucket job
 
--- the rounds from 1 to n
+-- The rounds from 1 to n.
 unfoldable pub with_rounds : JobName → TreeName → ℕ → Draft → Draft
 with_rounds job tree zero d = d
 with_rounds job tree (suc n) d = with_rounds job tree n d ▷ with_round job tree (suc n)
 
--- a document of 40000 records and a run
+-- A document of 40000 records and a run.
 unfoldable pub with_load : JobName → Draft → Draft
 with_load job d = d ▷ with_bytes (codes "load 40000\n") ▷ times 40000 (with_record job) ▷ with_bytes (codes "run\n")
 
--- at a drawn place 20 records are replaced by as many, and then there is a run
+-- At a drawn place 20 records are replaced by as many, and then there is a run.
 unfoldable pub with_edit : JobName → Draft → Draft
 with_edit job d = d ▷ with_field (codes "edit ") 39981 ▷ with_bytes (codes " 20 20\n") ▷ times 20 (with_record job) ▷ with_bytes (codes "run\n")
 
--- the whole script: a document and 39 edits for a random tree, 40 rounds of buckets for the others
+-- The whole script: a document and 39 edits for a random tree, 40 rounds of buckets for the others.
 unfoldable pub with_script : JobName → TreeName → Draft → Draft
 with_script job trees.Random d = d ▷ with_load job ▷ times 39 (with_edit job)
 with_script job tree d = d ▷ with_rounds job tree 40
 
--- nothing is written, and the first state is the number after the seed
+-- Nothing is written, and the first state is the number after the seed.
 abbrev pub blank : ℕ → Draft
 blank seed = record { text = []; state = seed + 1; records = 0 }
 
--- the script of a job and a tree that is made from a seed
+-- The script of a job and a tree that is made from a seed.
 unfoldable pub generated : JobName → TreeName → ℕ → List ℕ
 generated job tree seed = (blank seed ▷ with_script job tree).text

@@ -1,4 +1,4 @@
-// Pseudo-random numbers.
+//! Pseudo-random numbers.
 ghost use Rattle.std.specs.Prelude.{◌≡◌, ◌<◌};
 ghost use Rattle.script_generator.specs.Draws.{next_state, drawn};
 

@@ -1,4 +1,4 @@
-// The script of a job and a tree.
+//! The script of a job and a tree.
 ghost use Rattle.std.specs.Prelude.{◌≡◌, ◌+◌, ◌<◌, IfOk, OnOk};
 ghost use Rattle.script_generator.specs.Generated.{drops, with_bucket, with_round, with_rounds, with_load, with_edit, with_script, times, generated};
 

@@ -1,4 +1,4 @@
-// Writes a script piece by piece.
+//! Writes a script piece by piece.
 ghost use Rattle.std.specs.Prelude.{◌≡◌, ◌<◌, decimal, OnOk};
 ghost use Rattle.script_generator.specs.Generated.{blank, with_bytes, with_drawn, with_field, with_words, with_fields, with_record, times};
 
@@ -8,7 +8,7 @@ use program_words::JobName;
 use std::alloc::{AllocError, Global};
 use std::marker::Model;
 
-/// What is written of a script, the draws behind it, and how many records it has. After an `Err` it has some front of the
+/// What is written of a script, the draws behind it, and how many records it has. After an `Err` it has some prefix of the
 /// piece, and is of no use.
 #[derive(Drop)]
 pub(crate) struct Writer {

@@ -4,7 +4,7 @@ use Rattle.std.specs.Prelude.{slice_index_or, slice_set, drop}
 use Rattle.std.specs.Ordering.{eq_by_cmp}
 use Rattle.std.proofs.lemmas.List.Elements.{All-get_or, All-set}
 use Rattle.std.proofs.lemmas.Bool.Decides.{nat_tests}
-use Rattle.definitions.specs.Outside.{GainsFront}
+use Rattle.definitions.specs.Outside.{GainsPrefix}
 use Rattle.definitions.specs.Tables.{key_cmp, IsRising, HasGoodValues, value_at}
 use Rattle.definitions.specs.Answer.{lines_of}
 use Rattle.definitions.proofs.TableLaws.{is_true, passes, second, same_tables}
@@ -28,10 +28,10 @@ module _ {V : Type 0} (text : List ℕ → V → List ℕ) where
     rest = append_assoc w.gain (text e.0 e.1) (lines_of text u) ∙ w.rest;
   }
 
-  pub written-front : (old new all : List ℕ) (u : List (List ℕ × V)) → Written old new all u → GainsFront all old new
+  pub written-front : (old new all : List ℕ) (u : List (List ℕ × V)) → Written old new all u → GainsPrefix all old new
   written-front old new all u w = (w.gain, (lines_of text u, sym w.rest), w.is)
 
-  pub written-cut : (old new newer all : List ℕ) (e : List ℕ × V) (u : List (List ℕ × V)) → Written old new all (e ∷ u) → GainsFront (text e.0 e.1) new newer → GainsFront all old newer
+  pub written-cut : (old new newer all : List ℕ) (e : List ℕ × V) (u : List (List ℕ × V)) → Written old new all (e ∷ u) → GainsPrefix (text e.0 e.1) new newer → GainsPrefix all old newer
   written-cut old new newer all e u w cut = (
     w.gain ++ cut.0,
     (

@@ -4,14 +4,14 @@ use Rattle.std.specs.List.{flat_map}
 use Rattle.sha2.specs.Sha256.{sha256}
 use Rattle.job_laws.specs.Encoding.{be64}
 
--- an entry as bytes: the key, and what its value is encoded as, each behind its length
+-- An entry as bytes: the key, and what its value is encoded as, each behind its length.
 abbrev pub entry_bytes : {V : Type 0} → (V → List ℕ) → List ℕ × V → List ℕ
 entry_bytes encoded e = be64 (length e.0) ++ e.0 ++ be64 (length (encoded e.1)) ++ encoded e.1
 
--- a table as bytes: entry by entry, in order
+-- A table as bytes: entry by entry, in order.
 abbrev pub table_bytes : {V : Type 0} → (V → List ℕ) → List (List ℕ × V) → List ℕ
 table_bytes encoded t = flat_map (entry_bytes encoded) t
 
--- the digest of a table
+-- The digest of a table.
 unfoldable pub table_digest : {V : Type 0} → (V → List ℕ) → List (List ℕ × V) → List ℕ
 table_digest encoded t = sha256 (table_bytes encoded t)

@@ -5,29 +5,29 @@ use Rattle.definitions.specs.Tables.{IsRising, HasGoodValues, table_of, merged}
 use Rattle.sheets.specs.Sheets.{SheetOf}
 use Rattle.sheets.specs.United.{Apart, united}
 
--- the entries of a table whose keys belong to a part
+-- The entries of a table whose keys belong to a part.
 abbrev pub in_part : {V : Type 0} → ℕ → ℕ → List (List ℕ × V) → List (List ℕ × V)
 in_part parts part t = filter (λ e. part_number e.0 parts == part) t
 
--- there is a list for each part, with the entries of that part
+-- There is a list for each part, with the entries of that part.
 pub record HasParts {V : Type 0} (parts : ℕ) (t : List (List ℕ × V)) (lists : List (List (List ℕ × V))) : Type 0 where
   pub count : length lists ≡ parts
   pub each : (part : ℕ) (d : List (List ℕ × V)) → part < parts → slice_index_or lists part d ≡ in_part parts part t
 
--- there is a sheet for each part, with the entries of that part
+-- There is a sheet for each part, with the entries of that part.
 pub record AreSheets {V : Type 0} (setting parts : ℕ) (t : List (List ℕ × V)) (sheets : List (SheetOf V)) : Type 0 where
   pub count : length sheets ≡ parts
   pub each : (part : ℕ) (d : SheetOf V) → part < parts → slice_index_or sheets part d ≡ record { setting = setting; entries = in_part parts part t }
 
 module _ {V : Type 0} where
-  -- a part of the table of two lists of pairs is the merge of the parts of their tables
+  -- A part of the table of two lists of pairs is the merge of the parts of their tables.
   abbrev pub PartsAppend : (V → Type 0) → (V → V → V) → Type 0
   PartsAppend good join = (parts part : ℕ) (xs ys : List (List ℕ × V)) → HasGoodValues good xs → HasGoodValues good ys → in_part parts part (table_of join (xs ++ ys)) ≡ merged join (in_part parts part (table_of join xs)) (in_part parts part (table_of join ys))
 
-  -- a part of a merge is the merge of the parts
+  -- A part of a merge is the merge of the parts.
   abbrev pub PartsMerge : (V → V → V) → Type 0
   PartsMerge join = (parts part : ℕ) (t u : List (List ℕ × V)) → in_part parts part (merged join t u) ≡ merged join (in_part parts part t) (in_part parts part u)
 
--- the parts of a table share no key, and their union is the table
+-- The parts of a table share no key, and their union is the table.
 abbrev pub PartsUnite : (V : Type 0) → Type 0
 PartsUnite V = (parts : ℕ) (t : List (List ℕ × V)) (lists : List (List (List ℕ × V))) → 1 ≤ parts → IsRising t → HasParts parts t lists → Apart lists × (united lists ≡ t)

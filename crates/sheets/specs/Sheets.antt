@@ -3,21 +3,21 @@ use Rattle.std.specs.Prelude.{ℕ, ◌+◌, ◌-◌, ◌^◌, min, max, List, []
 use Rattle.std.specs.FinMap.Entries.{by_order}
 use Rattle.definitions.specs.Tables.{key_cmp}
 
--- a sheet is seen as the number that its job is set to, and a table
+-- A sheet is seen as the number that its job is set to, and a table.
 pub record SheetOf (V : Type 0) : Type 0 where
   pub setting : ℕ
   pub entries : List (List ℕ × V)
 
--- so many more, up to the last value of a count
+-- So many more, up to the last value of a count.
 abbrev pub risen_by : ℕ → ℕ → ℕ
 risen_by more n = max n (min (n + more) (2 ^ 64 - 1))
 
--- how many keys tie where lists are merged from the front: the entry e and the rest after it, with the entries of u
+-- How many keys tie where lists are merged from the front: the entry e and the rest after it, with the entries of u.
 abbrev pub ties_into : {V : Type 0} → List ℕ × V → (List (List ℕ × V) → ℕ) → List (List ℕ × V) → ℕ
 ties_into e rest [] = rest []
 ties_into e rest (f ∷ u) = by_order (key_cmp e.0 f.0) (rest (f ∷ u)) (rest u + 1) (ties_into e rest u)
 
--- how many keys tie where two lists are merged from the front
+-- How many keys tie where two lists are merged from the front.
 abbrev pub ties : {V : Type 0} → List (List ℕ × V) → List (List ℕ × V) → ℕ
 ties [] u = 0
 ties (e ∷ t) u = ties_into e (ties t) u

@@ -1,7 +1,7 @@
-// The lines of several sheets in one order.
+//! The lines of several sheets in one order.
 ghost use Rattle.std.specs.Prelude.{◌≡◌, ◌++◌, [], length, map, All, OnOk, OnErr, IfOk, IfSome, None};
 ghost use Rattle.definitions.specs.Answer.{lines_of};
-ghost use Rattle.definitions.specs.Outside.{GainsFront};
+ghost use Rattle.definitions.specs.Outside.{GainsPrefix};
 ghost use Rattle.definitions.specs.Tables.{HasGoodValues, IsRising};
 ghost use Rattle.sheets.specs.United.{Apart, BestIs, IsLeast, tables_of, united};
 
@@ -12,7 +12,7 @@ use std::alloc::{AllocError, Global};
 use std::cmp::Ordering;
 
 /// Appends the lines of all entries of the roots in byte order of their keys to `out`, and answers how many entries there
-/// are; where memory runs out, a front of the lines. It is one pass over the entries, each chosen among the roots.
+/// are; where memory runs out, a prefix of the lines. It is one pass over the entries, each chosen among the roots.
 pub fn answer_of<J: Job>(
     alloc: Global,
     job: &J,
@@ -23,7 +23,7 @@ pub fn answer_of<J: Job>(
     requires apart { Apart (tables_of roots.now) }
     ensures ok { OnOk result (out.new.items ≡ out.old.items ++ lines_of (J.text (J.setting job.now)) (united (tables_of roots.now))) }
     ensures count { IfOk result (λ n. n ≡ length (united (tables_of roots.now))) }
-    ensures err { OnErr result (GainsFront (lines_of (J.text (J.setting job.now)) (united (tables_of roots.now))) out.old.items out.new.items) }
+    ensures err { OnErr result (GainsPrefix (lines_of (J.text (J.setting job.now)) (united (tables_of roots.now))) out.old.items out.new.items) }
 {
     let mut rests = match rests_of(alloc, job, roots) {
         Ok(rests) => rests,

@@ -1,4 +1,4 @@
-// The digest of a table.
+//! The digest of a table.
 ghost use Rattle.std.specs.Prelude.{◌≡◌, ◌++◌, [], IfOk, OnOk};
 ghost use Rattle.sheets.specs.Digests.{entry_bytes, table_bytes, table_digest};
 

@@ -1,4 +1,4 @@
-// The table of pairs.
+//! The table of pairs.
 ghost use Rattle.std.specs.Prelude.{◌≡◌, ◌≤◌, ◌+◌, [], ◌∷◌, length, IfOk};
 ghost use Rattle.definitions.specs.Tables.{HasGoodValues, table_of};
 ghost use Rattle.job_laws.specs.Counted.{RoseWithin};

@@ -1,4 +1,4 @@
-// What parts of tables are to each other.
+//! What parts of tables are to each other.
 ghost use Rattle.std.specs.Prelude.{ℕ};
 ghost use Rattle.sheets.specs.Parts.{PartsAppend, PartsMerge, PartsUnite};
 

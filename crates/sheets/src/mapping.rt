@@ -1,4 +1,4 @@
-// The sheets of records.
+//! The sheets of records.
 ghost use Rattle.std.specs.Prelude.{◌≡◌, ◌≤◌, length, IsTrue, All, IfOk, OnOk};
 ghost use Rattle.definitions.specs.Answer.{pairs_of};
 ghost use Rattle.definitions.specs.Tables.{HasGoodValues, table_of};

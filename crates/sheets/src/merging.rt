@@ -1,4 +1,4 @@
-// The merge of two sheets.
+//! The merge of two sheets.
 ghost use Rattle.std.specs.Prelude.{◌≡◌, ◌≤◌, ◌+◌, IfOk, OnOk};
 ghost use Rattle.definitions.specs.Tables.{IsRising, HasGoodValues, merged, merge_in_order, common_keys};
 ghost use Rattle.job_laws.specs.Counted.{risen, RoseWithin};

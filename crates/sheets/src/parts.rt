@@ -1,4 +1,4 @@
-// A table in parts.
+//! A table in parts.
 ghost use Rattle.std.specs.Prelude.{◌≡◌, ◌<◌, ◌≤◌, ◌++◌, ◌∷◌, [], length, OnOk, IfOk};
 ghost use Rattle.definitions.specs.Tables.{IsRising, HasGoodValues};
 ghost use Rattle.partition.specs.Parts.{part_number};

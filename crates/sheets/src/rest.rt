@@ -1,4 +1,4 @@
-// What is left of a table.
+//! What is left of a table.
 ghost use Rattle.std.specs.Prelude.{◌≡◌, ◌∷◌, [], drop, IfSome, None};
 ghost use Rattle.definitions.specs.Tables.{HasGoodValues, IsRising};
 

@@ -1,7 +1,7 @@
-// Sheets.
+//! Sheets.
 ghost use Rattle.std.specs.Prelude.{◌≡◌, ◌++◌, [], ◌↔◌, ◌^◌, ◌<◌, IsTrue, IfOk, OnOk, OnErr};
 ghost use Rattle.definitions.specs.Answer.{lines_of};
-ghost use Rattle.definitions.specs.Outside.{GainsFront};
+ghost use Rattle.definitions.specs.Outside.{GainsPrefix};
 ghost use Rattle.definitions.specs.Tables.{IsRising, HasGoodValues};
 ghost use Rattle.sheets.specs.Digests.{table_digest};
 
@@ -94,11 +94,11 @@ impl<J: Job> Sheet<J> {
         &self.table
     }
 
-    /// Appends the lines of the entries in order to `out`; where memory runs out, a front of them.
+    /// Appends the lines of the entries in order to `out`; where memory runs out, a prefix of them.
     pub fn write_lines(&self, alloc: Global, job: &J, out: &mut Vec<u8>) -> Result<(), AllocError>
         requires { self.now.setting ≡ J.setting job.now }
         ensures ok { OnOk result (out.new.items ≡ out.old.items ++ lines_of (J.text (J.setting job.now)) self.now.entries) }
-        ensures err { OnErr result (GainsFront (lines_of (J.text (J.setting job.now)) self.now.entries) out.old.items out.new.items) }
+        ensures err { OnErr result (GainsPrefix (lines_of (J.text (J.setting job.now)) self.now.entries) out.old.items out.new.items) }
     {
         self.entries().write_lines(alloc, job, out)
     }

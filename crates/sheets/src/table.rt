@@ -1,7 +1,7 @@
-// Tables of partial results.
+//! Tables of partial results.
 ghost use Rattle.std.specs.Prelude.{◌≡◌, ◌<◌, ◌++◌, ◌↔◌, length, IsTrue, IfSome, OnOk, OnErr, slice_get};
 ghost use Rattle.definitions.specs.Answer.{lines_of};
-ghost use Rattle.definitions.specs.Outside.{GainsFront};
+ghost use Rattle.definitions.specs.Outside.{GainsPrefix};
 ghost use Rattle.definitions.specs.Tables.{IsRising, HasGoodValues};
 
 use job_laws::{Job, Key};
@@ -67,7 +67,7 @@ impl<J: Job> Table<J> {
         &self.entries[i].1
     }
 
-    /// Appends the lines of the entries in order to `out`; where memory runs out, a front of them.
+    /// Appends the lines of the entries in order to `out`; where memory runs out, a prefix of them.
     pub(crate) fn write_lines(
         &self,
         alloc: Global,
@@ -76,7 +76,7 @@ impl<J: Job> Table<J> {
     ) -> Result<(), AllocError>
         requires { HasGoodValues (J.good (J.setting job.now)) self.now }
         ensures ok { OnOk result (out.new.items ≡ out.old.items ++ lines_of (J.text (J.setting job.now)) self.now) }
-        ensures err { OnErr result (GainsFront (lines_of (J.text (J.setting job.now)) self.now) out.old.items out.new.items) }
+        ensures err { OnErr result (GainsPrefix (lines_of (J.text (J.setting job.now)) self.now) out.old.items out.new.items) }
     {
         write_entries(alloc, job, self.entries.as_slice(), out)
     }
@@ -97,7 +97,7 @@ fn write_entries<J: Job>(
 ) -> Result<(), AllocError>
     requires { HasGoodValues (J.good (J.setting job.now)) entries.now }
     ensures ok { OnOk result (out.new.items ≡ out.old.items ++ lines_of (J.text (J.setting job.now)) entries.now) }
-    ensures err { OnErr result (GainsFront (lines_of (J.text (J.setting job.now)) entries.now) out.old.items out.new.items) }
+    ensures err { OnErr result (GainsPrefix (lines_of (J.text (J.setting job.now)) entries.now) out.old.items out.new.items) }
 {
     let mut rest = entries;
     'entries: while let [(key, val), more @ ..] = rest {

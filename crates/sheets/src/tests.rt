@@ -1,4 +1,4 @@
-// Sheets of a small job whose joining is not commutative, through the bound.
+//! Sheets of a small job whose joining is not commutative, through the bound.
 ghost use Rattle.std.specs.Prelude.{◌≡◌, ◌<◌, ◌++◌, ◌∷◌, [], true, ◌&&◌, nat_le, take, length, refl, IsTrue, All};
 ghost use Rattle.job_laws.specs.Encoding.{be64};
 

@@ -5,12 +5,12 @@ use Rattle.slider_io.specs.declared.source.ReadFailed.{ReadFailed}
 use Rattle.slider_io.specs.declared.sink.WriteFault.{WriteFault}
 use Rattle.slider_io.specs.declared.sink.WriteFault.TheVariants.{Failed, Mem}
 
--- one more, up to the last value of a count
+-- One more, up to the last value of a count.
 abbrev pub one_more : ℕ → ℕ
 one_more n = min (n + 1) (2 ^ 64 - 1)
 
--- a device in memory: its bytes (still to come, or taken), how many a call moves at most, the numbers of the calls
--- that fail, and how many calls and faults there were
+-- A device in memory: its bytes (still to come, or taken), how many a call moves at most, the numbers of the calls
+-- that fail, and how many calls and faults there were.
 pub record Device : Type 0 where
   pub bytes : List ℕ
   pub most : ℕ
@@ -18,24 +18,24 @@ pub record Device : Type 0 where
   pub calls : ℕ
   pub faults : ℕ
 
--- whether the next call fails
+-- Whether the next call fails.
 abbrev pub will_fail : Device → Bool
 will_fail d = list_any (λ k. one_more d.calls == k) d.fails
 
--- the device after a call that fails
+-- The device after a call that fails.
 abbrev pub failed : Device → Device
 failed d = record d { calls = one_more d.calls; faults = one_more d.faults }
 
--- the device after a call that leaves these bytes
+-- The device after a call that leaves these bytes.
 abbrev pub called : Device → List ℕ → Device
 called d bytes = record d { calls = one_more d.calls; bytes = bytes }
 
--- a call of a source in memory: it fails exactly where it is to, and else gives as many bytes as fit
+-- A call of a source in memory: it fails exactly where it is to, and else gives as many bytes as fit.
 abbrev pub MemTakes : Device → Device → ℕ → Result ℕ ReadFailed → Type 0
 MemTakes old new room (Ok n) = (will_fail old ≡ false) × (n ≡ min (min room old.most) (length old.bytes)) × (new ≡ called old (drop n old.bytes))
 MemTakes old new room (Err e) = (will_fail old ≡ true) × (new ≡ failed old)
 
--- a call of a sink in memory: it fails exactly where it is to, and else takes as many bytes as fit or finds no memory
+-- A call of a sink in memory: it fails exactly where it is to, and else takes as many bytes as fit or finds no memory.
 abbrev pub MemPuts : Device → Device → List ℕ → Result ℕ WriteFault → Type 0
 MemPuts old new piece (Ok n) = (will_fail old ≡ false) × (n ≡ min (length piece) old.most) × (new ≡ called old (old.bytes ++ take n piece))
 MemPuts old new piece (Err Failed) = (will_fail old ≡ true) × (new ≡ failed old)

@@ -1,4 +1,4 @@
-// A gate that is passed before each task.
+//! A gate that is passed before each task.
 ghost use Rattle.std.specs.Prelude.{ℕ};
 
 /// Is passed before each task is worked, by the thread that works it. It may hold a task back, and changes no answer.

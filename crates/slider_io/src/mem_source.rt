@@ -1,4 +1,4 @@
-// A source over bytes in memory that gives them in pieces and fails when it is told to.
+//! A source over bytes in memory that gives them in pieces and fails when it is told to.
 ghost use Rattle.std.specs.Prelude.{◌≡◌, ◌≤◌, ◌-◌, ℕ, List, [], length, drop, take, min, IfOk, OnErr, ◌↔◌, IsTrue};
 ghost use Rattle.std.specs.List.{list_any};
 ghost use Rattle.std.specs.declared.option.Option.TheVariants.{Some};

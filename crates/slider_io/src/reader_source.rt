@@ -1,4 +1,4 @@
-// A source over a real reader.
+//! A source over a real reader.
 ghost use Rattle.std.specs.Prelude.{◌≡◌, ◌≤◌, ℕ, List, length, IfOk, OnOk, OnErr};
 ghost use Rattle.std.specs.declared.option.Option.TheVariants.{None};
 ghost use Rattle.definitions.specs.Outside.{Rose};

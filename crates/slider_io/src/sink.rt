@@ -1,4 +1,4 @@
-// Bytes that go out.
+//! Bytes that go out.
 ghost use Rattle.std.specs.Prelude.{◌≡◌, ◌<◌, ◌≤◌, ℕ, List, length, IfOk, IsErrOf};
 ghost use Rattle.std.specs.declared.option.Option.{Option};
 ghost use Rattle.definitions.specs.Outside.{Rose};

@@ -1,4 +1,4 @@
-// Bytes that come in.
+//! Bytes that come in.
 ghost use Rattle.std.specs.Prelude.{◌≤◌, ℕ, List, length, IfOk, OnErr};
 ghost use Rattle.std.specs.declared.option.Option.{Option};
 ghost use Rattle.definitions.specs.Outside.{Rose};

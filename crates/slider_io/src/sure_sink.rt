@@ -1,4 +1,4 @@
-// A sink into memory that never fails.
+//! A sink into memory that never fails.
 ghost use Rattle.std.specs.Prelude.{◌≡◌, ◌≢◌, ◌<◌, ◌≤◌, ℕ, List, [], length, IfOk, IfErr, IsErrOf};
 ghost use Rattle.std.specs.declared.option.Option.TheVariants.{Some};
 ghost use Rattle.definitions.specs.Outside.{Rose};

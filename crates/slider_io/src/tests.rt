@@ -1,4 +1,4 @@
-// Tests of the devices, with bytes and counts written by hand.
+//! Tests of the devices, with bytes and counts written by hand.
 use crate::{
     Gate, MemSink, MemSource, NoGate, ReadFailed, ReaderSource, Sink, Source, SureSink, SureSource,
     WriteFault, WriterSink, put_all,
@@ -116,7 +116,7 @@ fn a_source_in_memory_gives_pieces_and_fails_at_its_calls(
 }
 
 #[test]
-fn a_failing_sink_keeps_a_front(rt: HostRuntime) -> Result<(), AllocError> {
+fn a_failing_sink_keeps_a_prefix(rt: HostRuntime) -> Result<(), AllocError> {
     let alloc = rt.alloc();
     let mut sink = MemSink::new(alloc, 2, Vec::from_slice(alloc, &[3u64])?);
     assert_eq!(rt; put_all(&mut sink, b"abcdef"), Err(WriteFault::Failed));

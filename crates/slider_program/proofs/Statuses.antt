@@ -2,23 +2,23 @@
 use Rattle.std.proofs.Common.{◌≡◌, ◌≢◌, ℕ, List, [], refl, sym, ◌∙◌, subst, append-nil, inl, inr, ◌⊎◌}
 use Rattle.std.specs.Prelude.{Option}
 use Rattle.std.specs.declared.option.Option.TheVariants.{Some, None}
-use Rattle.definitions.specs.Outside.{Rose, Told, GainsFront}
+use Rattle.definitions.specs.Outside.{Rose, Told, GainsPrefix}
 use Rattle.definitions.proofs.ToldBytes.{told_same, told_with}
 use Rattle.record_text.specs.declared.script_fault.Why.{Why}
 use Rattle.record_text.specs.Script.{Ending, commands}
 use Rattle.window_manager.specs.Windows.{WindowState}
 use Rattle.slider_session.specs.Output.{Meaning, output_of, ending_of}
 use Rattle.record_text.specs.Lines.{whole_lines}
-use Rattle.slider_session.specs.Serving.{Writes, Whole, AtFault, OfTaken, WritesFront, most_script}
+use Rattle.slider_session.specs.Serving.{Writes, Whole, AtFault, OfTaken, WritesPrefix, most_script}
 use Rattle.slider_program.specs.Words.{fault_line, end_line}
 use Rattle.program_words.specs.declared.plan.JobName.{JobName}
 use Rattle.program_words.specs.declared.plan.JobName.TheVariants.{Count, Index, Latest, TopK}
 use Rattle.slider_program.specs.Summaries.{summary_of}
 use Rattle.slider_program.specs.Program.{Seen, Tries, SumsUp, Answered, AnsweredBy, AnsweredFor}
 
--- a whole output is a front of itself
-front_of : {V : Type 0} (j : Meaning V) (w : WindowState) (old new : Seen) (script : List ℕ) → Writes j w most_script script old.held new.held → WritesFront j w most_script script old.held new.held
-front_of j w old new script written = told_with old.held new.held _ (GainsFront (output_of j w (commands most_script script))) written
+-- a whole output is a prefix of itself
+front_of : {V : Type 0} (j : Meaning V) (w : WindowState) (old new : Seen) (script : List ℕ) → Writes j w most_script script old.held new.held → WritesPrefix j w most_script script old.held new.held
+front_of j w old new script written = told_with old.held new.held _ (GainsPrefix (output_of j w (commands most_script script))) written
     (λ x y c d wrote. (output_of j w (commands most_script script), ([], sym (append-nil (output_of j w (commands most_script script)))), wrote))
 
 module _ {V : Type 0} (j : Meaning V) (w : WindowState) (old new : Seen) (status line : ℕ) (why : Why) (served : Told old.left new.left (λ script after. AtFault j w most_script line why script old.held new.held)) where
@@ -30,34 +30,34 @@ module _ {V : Type 0} (j : Meaning V) (w : WindowState) (old new : Seen) (status
   some_status (inl is) = inr (inl is)
   some_status (inr is) = inr (inr (inr (inr is)))
 
-  pub fault_answered : (status ≡ 3) ⊎ (status ≡ 6) → (status ≡ 3 → Tries (fault_line line why) old.said new.said old.err_faults new.err_faults) → Told old.said new.said (GainsFront (fault_line line why)) → Answered j w old new status
-  fault_answered known tried front = record {
+  pub fault_answered : (status ≡ 3) ⊎ (status ≡ 6) → (status ≡ 3 → Tries (fault_line line why) old.said new.said old.err_faults new.err_faults) → Told old.said new.said (GainsPrefix (fault_line line why)) → Answered j w old new status
+  fault_answered known tried prefix = record {
     done = λ e. neither 0 (λ h. cc) (λ h. cc) known e;
     fault = λ e. (line, why, served, tried e);
     read = λ e. neither 4 (λ h. cc) (λ h. cc) known e;
     write = λ e. neither 5 (λ h. cc) (λ h. cc) known e;
-    front = told_with old.left new.left _ (λ script after. WritesFront j w most_script script old.held new.held) served (λ script after a b at. front_of j w old new script at.1);
-    said = told_with old.left new.left _ (λ script after. Told old.said new.said (GainsFront (end_line (ending_of j w (commands most_script script))))) served (λ script after a b at.
-        subst (λ (e : Ending). Told old.said new.said (GainsFront (end_line e))) (sym at.0) front);
+    prefix = told_with old.left new.left _ (λ script after. WritesPrefix j w most_script script old.held new.held) served (λ script after a b at. front_of j w old new script at.1);
+    said = told_with old.left new.left _ (λ script after. Told old.said new.said (GainsPrefix (end_line (ending_of j w (commands most_script script))))) served (λ script after a b at.
+        subst (λ (e : Ending). Told old.said new.said (GainsPrefix (end_line e))) (sym at.0) prefix);
     known = some_status known;
   }
 
--- a status with nothing said on `err`, where a front of the output was written
+-- a status with nothing said on `err`, where a prefix of the output was written
 module _ {V : Type 0} (j : Meaning V) (w : WindowState) (old new : Seen) (quiet : new.said ≡ old.said) where
-  -- the front of the output that was written where a read failed
-  of_taken : Told old.left new.left (λ script after. OfTaken j w most_script script after old.held new.held) → Told old.left new.left (λ script after. WritesFront j w most_script script old.held new.held)
-  of_taken served = told_with old.left new.left _ (λ script after. WritesFront j w most_script script old.held new.held) served (λ script after a b at.
-      told_with old.held new.held _ (GainsFront (output_of j w (commands most_script script))) at.written (λ x y c d wrote. (output_of j w (commands most_script (whole_lines at.bytes)), at.front, wrote)))
+  -- the prefix of the output that was written where a read failed
+  of_taken : Told old.left new.left (λ script after. OfTaken j w most_script script after old.held new.held) → Told old.left new.left (λ script after. WritesPrefix j w most_script script old.held new.held)
+  of_taken served = told_with old.left new.left _ (λ script after. WritesPrefix j w most_script script old.held new.held) served (λ script after a b at.
+      told_with old.held new.held _ (GainsPrefix (output_of j w (commands most_script script))) at.written (λ x y c d wrote. (output_of j w (commands most_script (whole_lines at.bytes)), at.prefix, wrote)))
 
-  -- the front of the output that was written where all of it was
-  of_whole : Told old.left new.left (λ script after. Whole j w most_script script after old.held new.held) → Told old.left new.left (λ script after. WritesFront j w most_script script old.held new.held)
-  of_whole served = told_with old.left new.left _ (λ script after. WritesFront j w most_script script old.held new.held) served (λ script after a b at. front_of j w old new script at.2)
+  -- the prefix of the output that was written where all of it was
+  of_whole : Told old.left new.left (λ script after. Whole j w most_script script after old.held new.held) → Told old.left new.left (λ script after. WritesPrefix j w most_script script old.held new.held)
+  of_whole served = told_with old.left new.left _ (λ script after. WritesPrefix j w most_script script old.held new.held) served (λ script after a b at. front_of j w old new script at.2)
 
-  module _ (front : Told old.left new.left (λ script after. WritesFront j w most_script script old.held new.held)) where
-    nothing_said : Told old.left new.left (λ script after. Told old.said new.said (GainsFront (end_line (ending_of j w (commands most_script script)))))
-    nothing_said = told_with old.left new.left _ (λ script after. Told old.said new.said (GainsFront (end_line (ending_of j w (commands most_script script))))) front (λ script after a b inner.
-        subst (λ (o : Option (List ℕ)). Told old.said o (GainsFront (end_line (ending_of j w (commands most_script script))))) (sym quiet)
-        (told_same old.said (GainsFront (end_line (ending_of j w (commands most_script script)))) (λ z. ([], (end_line (ending_of j w (commands most_script script)), refl), sym (append-nil z)))))
+  module _ (prefix : Told old.left new.left (λ script after. WritesPrefix j w most_script script old.held new.held)) where
+    nothing_said : Told old.left new.left (λ script after. Told old.said new.said (GainsPrefix (end_line (ending_of j w (commands most_script script)))))
+    nothing_said = told_with old.left new.left _ (λ script after. Told old.said new.said (GainsPrefix (end_line (ending_of j w (commands most_script script))))) prefix (λ script after a b inner.
+        subst (λ (o : Option (List ℕ)). Told old.said o (GainsPrefix (end_line (ending_of j w (commands most_script script))))) (sym quiet)
+        (told_same old.said (GainsPrefix (end_line (ending_of j w (commands most_script script)))) (λ z. ([], (end_line (ending_of j w (commands most_script script)), refl), sym (append-nil z)))))
 
     pub write_answered : Rose old.out_faults new.out_faults → Answered j w old new 5
     write_answered rose = record {
@@ -65,7 +65,7 @@ module _ {V : Type 0} (j : Meaning V) (w : WindowState) (old new : Seen) (quiet 
       fault = λ e. cc;
       read = λ e. cc;
       write = λ e. (rose, quiet);
-      front = front;
+      prefix = prefix;
       said = nothing_said;
       known = inr (inr (inr (inl refl)));
     }
@@ -76,7 +76,7 @@ module _ {V : Type 0} (j : Meaning V) (w : WindowState) (old new : Seen) (quiet 
       fault = λ e. cc;
       read = λ e. cc;
       write = λ e. cc;
-      front = front;
+      prefix = prefix;
       said = nothing_said;
       known = inr (inr (inr (inr refl)));
     }
@@ -87,7 +87,7 @@ module _ {V : Type 0} (j : Meaning V) (w : WindowState) (old new : Seen) (quiet 
     fault = λ e. cc;
     read = λ e. cc;
     write = λ e. cc;
-    front = of_whole served;
+    prefix = of_whole served;
     said = nothing_said (of_whole served);
     known = inl refl;
   }
@@ -98,22 +98,22 @@ module _ {V : Type 0} (j : Meaning V) (w : WindowState) (old new : Seen) (quiet 
     fault = λ e. cc;
     read = λ e. (rose, served, quiet);
     write = λ e. cc;
-    front = of_taken served;
+    prefix = of_taken served;
     said = nothing_said (of_taken served);
     known = inr (inr (inl refl));
   }
 
 -- want of memory before anything was touched
 untouched_answered : {V : Type 0} (j : Meaning V) (w : WindowState) (old : Seen) → Answered j w old old 6
-untouched_answered j w old = memory_answered j w old old refl (told_same old.left (λ script after. WritesFront j w most_script script old.held old.held) (λ script.
-    told_same old.held (GainsFront (output_of j w (commands most_script script))) (λ z. ([], (output_of j w (commands most_script script), refl), sym (append-nil z)))))
+untouched_answered j w old = memory_answered j w old old refl (told_same old.left (λ script after. WritesPrefix j w most_script script old.held old.held) (λ script.
+    told_same old.held (GainsPrefix (output_of j w (commands most_script script))) (λ z. ([], (output_of j w (commands most_script script), refl), sym (append-nil z)))))
 
 -- nothing was gained of a line
 pub nothing_summed : (line : List ℕ) (before : Option (List ℕ)) (faults : ℕ) → SumsUp line before before faults faults 6
 nothing_summed line before faults = record {
   done = λ e. cc;
   write = λ e. cc;
-  front = told_same before (GainsFront line) (λ z. ([], (line, refl), sym (append-nil z)));
+  prefix = told_same before (GainsPrefix line) (λ z. ([], (line, refl), sym (append-nil z)));
   known = inr (inr refl);
 }
 

@@ -9,22 +9,22 @@ use Rattle.jobs_basic.specs.Index.{index_accepts}
 use Rattle.jobs_basic.specs.Latest.{latest_accepts}
 use Rattle.job_topk.specs.TopK.{topk_accepts}
 
--- a record is short enough for each job
+-- A record is short enough for each job.
 fits_job : (r : List ℕ) → IsRecord r → nat_le (length r) 65535 ≡ true
 fits_job r fits = let short = fits.0 in grind (arith, nat_tests)
 
--- count accepts every record
+-- Count accepts every record.
 pub count_accepts_records : (r : List ℕ) → IsRecord r → count_accepts r ≡ is_count_record r
 count_accepts_records r fits = fits_job r fits
 
--- index accepts those of its form
+-- Index accepts those of its form.
 pub index_accepts_records : (r : List ℕ) → IsRecord r → index_accepts r ≡ is_index_record r
 index_accepts_records r fits = rw (fits_job r fits) refl
 
--- latest accepts those of its form
+-- Latest accepts those of its form.
 pub latest_accepts_records : (r : List ℕ) → IsRecord r → latest_accepts r ≡ is_latest_record r
 latest_accepts_records r fits = rw (fits_job r fits) refl
 
--- topk accepts those of its form
+-- Topk accepts those of its form.
 pub topk_accepts_records : (r : List ℕ) → IsRecord r → topk_accepts r ≡ is_topk_record r
 topk_accepts_records r fits = rw (fits_job r fits) refl

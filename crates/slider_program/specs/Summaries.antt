@@ -9,24 +9,24 @@ use Rattle.window_manager.specs.Windows.{WindowState}
 use Rattle.slider_session.specs.Output.{Meaning, output_of}
 use Rattle.slider_session.specs.Serving.{most_script}
 
--- how many runs a command is
+-- How many runs a command is.
 abbrev pub runs_in : Command → ℕ
 runs_in Run = 1
 runs_in c = 0
 
--- how many of these commands are runs
+-- How many of these commands are runs.
 abbrev pub runs_among : List (Command × ℕ) → ℕ
 runs_among [] = 0
 runs_among (c ∷ cs) = runs_in c.0 + runs_among cs
 
--- how many runs a script has
+-- How many runs a script has.
 abbrev pub runs_of : Script → ℕ
 runs_of script = runs_among script.0
 
--- the summary of an output over so many runs: its length and its SHA-256
+-- The summary of an output over so many runs: its length and its SHA-256.
 abbrev pub summary_line : ℕ → List ℕ → List ℕ
 summary_line runs output = codes "runs " ++ decimal runs ++ (codes " bytes " ++ decimal (length output) ++ (codes " sha256 " ++ encode_lower (sha256 output) ++ codes "\n"))
 
--- the summary of what is written for a script, over a job and from a window on
+-- The summary of what is written for a script, over a job and from a window on.
 abbrev pub summary_of : {V : Type 0} → Meaning V → WindowState → List ℕ → List ℕ
 summary_of j w script = summary_line (runs_of (commands most_script script)) (output_of j w (commands most_script script))

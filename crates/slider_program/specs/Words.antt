@@ -4,7 +4,7 @@ use Rattle.record_text.specs.declared.script_fault.Why.{Why}
 use Rattle.record_text.specs.declared.script_fault.Why.TheVariants.{Unknown, BadNumber, BadName, ShortInput, LongLine, LongScript, NotHere, TooMany, BadRecord, WindowLarge, Read, Mem}
 use Rattle.record_text.specs.Script.{Ending, Done, Faulty}
 
--- the word of a fault; what ends a script is neither a failed read nor want of memory
+-- The word of a fault; what ends a script is neither a failed read nor want of memory.
 abbrev pub word_of : Why → List ℕ
 word_of Unknown = codes "unknown"
 word_of BadNumber = codes "number"
@@ -19,11 +19,11 @@ word_of WindowLarge = codes "window"
 word_of Read = codes "read"
 word_of Mem = codes "memory"
 
--- the line for a script's fault
+-- The line for a script's fault.
 abbrev pub fault_line : ℕ → Why → List ℕ
 fault_line line why = codes "fault " ++ decimal line ++ (codes " " ++ word_of why ++ codes "\n")
 
--- the line for the end of a script, if any
+-- The line for the end of a script, if any.
 abbrev pub end_line : Ending → List ℕ
 end_line Done = []
 end_line (Faulty line why) = fault_line line why

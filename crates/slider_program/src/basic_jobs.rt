@@ -1,4 +1,4 @@
-// The jobs that the program hands in.
+//! The jobs that the program hands in.
 ghost use Rattle.std.specs.Prelude.{◌≡◌, ◌≤◌};
 ghost use Rattle.slider_program.specs.Accepts.{count_accepts_records, index_accepts_records, latest_accepts_records, topk_accepts_records};
 

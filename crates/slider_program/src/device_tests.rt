@@ -1,4 +1,4 @@
-// Devices that fail, and words that are refused before any device is touched.
+//! Devices that fail, and words that are refused before any device is touched.
 
 use crate::basic_jobs::BasicJobs;
 use crate::new_meters;

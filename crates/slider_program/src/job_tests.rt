@@ -1,4 +1,4 @@
-// The four jobs, through the program.
+//! The four jobs, through the program.
 
 use crate::tests::line_gives;
 use std::alloc::AllocError;

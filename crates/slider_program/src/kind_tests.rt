@@ -1,4 +1,4 @@
-// Scripts served over each kind of window.
+//! Scripts served over each kind of window.
 ghost use Rattle.std.specs.Prelude.{◌≤◌};
 
 use crate::basic_jobs::BasicJobs;

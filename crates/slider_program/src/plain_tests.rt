@@ -1,4 +1,4 @@
-// The program beside the plain one, over scripts that are made from numbers.
+//! The program beside the plain one, over scripts that are made from numbers.
 
 use crate::basic_jobs::BasicJobs;
 use crate::tests::{Ran, count_words, run};

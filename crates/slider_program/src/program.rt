@@ -1,6 +1,6 @@
-// The top call.
+//! The top call.
 ghost use Rattle.std.specs.Prelude.{◌≡◌, ◌⊎◌, ◌+◌, ℕ, List, length, map, string_bytes, IsSome, Ok, Err};
-ghost use Rattle.definitions.specs.Outside.{Told, GainsFront};
+ghost use Rattle.definitions.specs.Outside.{Told, GainsPrefix};
 ghost use Rattle.window_manager.specs.Windows.{empty_window};
 ghost use Rattle.slider_session.specs.Output.{meaning};
 ghost use Rattle.slider_session.specs.Serving.{FitsMeters};
@@ -31,7 +31,7 @@ use std::thread::Threads;
 fn status_after<E: Sink>(err: &mut E, line: &[u8], status: u8) -> u8
     ensures status { (result ≡ status) ⊎ (result ≡ 6) }
     ensures tried { (result ≡ 6 → ⊥) → Tries line.now (E.held err.old) (E.held err.new) (E.faults err.old) (E.faults err.new) }
-    ensures front { Told (E.held err.old) (E.held err.new) (GainsFront line.now) }
+    ensures prefix { Told (E.held err.old) (E.held err.new) (GainsPrefix line.now) }
 {
     match put_all(err, line) {
         Ok(()) => status,
@@ -44,7 +44,7 @@ fn status_after<E: Sink>(err: &mut E, line: &[u8], status: u8) -> u8
 fn status_of_fault<E: Sink>(alloc: Global, err: &mut E, fault: ScriptFault) -> u8
     ensures status { (result ≡ 3) ⊎ (result ≡ 6) }
     ensures tried { result ≡ 3 → Tries (fault_line fault.line fault.why) (E.held err.old) (E.held err.new) (E.faults err.old) (E.faults err.new) }
-    ensures front { Told (E.held err.old) (E.held err.new) (GainsFront (fault_line fault.line fault.why)) }
+    ensures prefix { Told (E.held err.old) (E.held err.new) (GainsPrefix (fault_line fault.line fault.why)) }
 {
     match line_of_fault(alloc, fault) {
         Ok(line) => status_after(err, line.as_bytes(), 3),

@@ -1,4 +1,4 @@
-// Sheets of the program's own jobs.
+//! Sheets of the program's own jobs.
 ghost use Rattle.std.specs.Prelude.{◌≡◌, All, IsTrue};
 
 use crate::basic_jobs::BasicJobs;

@@ -1,4 +1,4 @@
-// The line that sums up what is written for a generated script.
+//! The line that sums up what is written for a generated script.
 ghost use Rattle.std.specs.Prelude.{◌≡◌, IfOk, string_bytes};
 ghost use Rattle.definitions.specs.Outside.{Told};
 ghost use Rattle.record_text.specs.Script.{commands};

@@ -1,4 +1,4 @@
-// The worked rows of the program, over devices in memory.
+//! The worked rows of the program, over devices in memory.
 
 use crate::basic_jobs::BasicJobs;
 use crate::new_meters;
@@ -112,15 +112,15 @@ fn both_give<Q: Threads + Wait + Sync>(
     Ok(ran.is(out, err, status) && plain.is(out, err, status))
 }
 
-/// The bytes of `front`, then `count` times the byte `middle`, then `back`.
+/// The bytes of `prefix`, then `count` times the byte `middle`, then `back`.
 pub fn around(
     alloc: Global,
-    front: &[u8],
+    prefix: &[u8],
     middle: u8,
     count: usize,
     back: &[u8],
 ) -> Result<Vec<u8>, AllocError> {
-    let mut bytes = Vec::from_slice(alloc, front)?;
+    let mut bytes = Vec::from_slice(alloc, prefix)?;
     for _ in 0..count {
         bytes.push(middle)?;
     }

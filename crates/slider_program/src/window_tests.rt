@@ -1,4 +1,4 @@
-// Scripts over each kind of window, through the program.
+//! Scripts over each kind of window, through the program.
 
 use crate::tests::{around, line_gives, run, words};
 use std::alloc::{AllocError, Global};

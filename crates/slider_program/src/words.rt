@@ -1,4 +1,4 @@
-// The lines that stand on `err` where a script ends.
+//! The lines that stand on `err` where a script ends.
 ghost use Rattle.std.specs.Prelude.{◌≡◌, IfOk, string_bytes};
 ghost use Rattle.slider_program.specs.Words.{word_of, fault_line};
 

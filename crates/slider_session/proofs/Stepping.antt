@@ -2,7 +2,7 @@
 use Rattle.std.proofs.Common.{◌≡◌, ◌≢◌, ℕ, ◌+◌, ◌≤◌, List, [], ◌++◌, refl, sym, ap, ◌∙◌, subst, append-nil, append_assoc, inl, inr, arith}
 use Rattle.std.specs.Prelude.{Option, Result, Ok, Err}
 use Rattle.std.specs.declared.option.Option.TheVariants.{Some, None}
-use Rattle.definitions.specs.Outside.{Told, IsFront, GainsFront}
+use Rattle.definitions.specs.Outside.{Told, IsPrefix, GainsPrefix}
 use Rattle.definitions.proofs.ToldBytes.{told_same}
 use Rattle.record_text.specs.declared.command.Command.{Command}
 use Rattle.record_text.specs.declared.command.Command.TheVariants.{Bucket, Drop, Late, File, Remove, Edit, Load, Run}
@@ -29,11 +29,11 @@ module _ {V : Type 0} (j : Meaning V) (old new : Held) (c : Command) (line : ℕ
     pub accepted : accepted_of new ≤ accepted_of old + 1
     pub setting : new.setting ≡ old.setting
 
-  -- a command was cut short: a front of what it writes was written
+  -- a command was cut short: a prefix of what it writes was written
   pub record IsCut : Type 0 where
     pub gain : List ℕ
     pub written : Told before now (λ bytes more. more ≡ bytes ++ gain)
-    pub front : (go : Going) → IsFront gain (on_command j (old.runs + 1) (state_of old) c line go).0
+    pub prefix : (go : Going) → IsPrefix gain (on_command j (old.runs + 1) (state_of old) c line go).0
 
   -- a command was refused: the script ends there, and nothing was written
   pub record IsRefused (fault : ScriptFault) : Type 0 where
@@ -88,23 +88,23 @@ module _ {V : Type 0} (j : Meaning V) (old new : Held) (line : ℕ) (before now 
     change_comes (Err Halts.Mem) a same = record {
       gain = [];
       written = unwritten before now same;
-      front = λ go. ((on_command j (old.runs + 1) (state_of old) c line go).0, refl);
+      prefix = λ go. ((on_command j (old.runs + 1) (state_of old) c line go).0, refl);
     }
 
-  -- a front of the next piece was written, as far as it is told
-  gained : (all : List ℕ) (before now : Option (List ℕ)) → Told before now (GainsFront all) → (gain : List ℕ) × IsFront gain all × Told before now (λ bytes more. more ≡ bytes ++ gain)
+  -- a prefix of the next piece was written, as far as it is told
+  gained : (all : List ℕ) (before now : Option (List ℕ)) → Told before now (GainsPrefix all) → (gain : List ℕ) × IsPrefix gain all × Told before now (λ bytes more. more ≡ bytes ++ gain)
   gained all None None t = ([], (all, refl), tt)
   gained all None (Some y) t = absurd t
   gained all (Some x) None t = absurd t
   gained all (Some x) (Some y) t = (t.0, t.1, t.2)
 
-  cut_in_piece : Told before now (GainsFront (next_piece j old)) → IsCut j old new Run line before now
+  cut_in_piece : Told before now (GainsPrefix (next_piece j old)) → IsCut j old new Run line before now
   cut_in_piece t =
       let cut = gained (next_piece j old) before now t in
       record {
         gain = cut.0;
         written = cut.2;
-        front = λ go. (
+        prefix = λ go. (
           cut.1.0 ++ (go (old.runs + 1 + 1) (state_of old)).0,
           ap (λ (l : List ℕ). l ++ (go (old.runs + 1 + 1) (state_of old)).0) cut.1.1 ∙ append_assoc cut.0 cut.1.0 (go (old.runs + 1 + 1) (state_of old)).0,
         );
@@ -125,7 +125,7 @@ module _ {V : Type 0} (j : Meaning V) (old new : Held) (line : ℕ) (before now 
   answer_comes (Err Halts.Mem) (inl a) = record {
     gain = [];
     written = unwritten before now a.1;
-    front = λ go. ((on_command j (old.runs + 1) (state_of old) Run line go).0, refl);
+    prefix = λ go. ((on_command j (old.runs + 1) (state_of old) Run line go).0, refl);
   }
   answer_comes (Err Halts.Mem) (inr a) = cut_in_piece a.1
 

@@ -2,7 +2,7 @@
 use Rattle.std.proofs.Common.{◌≡◌, ◌≢◌, ℕ, ◌+◌, ◌<◌, Bool, true, false, List, [], ◌++◌, length, refl, sym, ap, ◌∙◌, subst, arith, inl, inr, ◌⊎◌, append-nil, append_assoc}
 use Rattle.std.specs.Prelude.{Option, Ok, Err}
 use Rattle.std.specs.declared.option.Option.TheVariants.{Some, None}
-use Rattle.definitions.specs.Outside.{Told, IsFront, GainsFront}
+use Rattle.definitions.specs.Outside.{Told, IsPrefix, GainsPrefix}
 use Rattle.definitions.proofs.ToldBytes.{told_same, told_then, told_with}
 use Rattle.record_text.specs.declared.command.Command.{Command}
 use Rattle.record_text.specs.declared.script_fault.ScriptFault.{ScriptFault}
@@ -17,7 +17,7 @@ use Rattle.record_text.proofs.ReadLaws.{uses_then}
 use Rattle.window_manager.specs.Windows.{WindowState}
 use Rattle.slider_session.specs.Output.{Meaning, Outcome, after_bytes, on_command, outcome_from, outcome_of, output_of, ending_of}
 use Rattle.slider_session.specs.Calls.{Held, state_of}
-use Rattle.slider_session.specs.Serving.{Serves, Writes, AtFault, WritesFront, HaltIs}
+use Rattle.slider_session.specs.Serving.{Serves, Writes, AtFault, WritesPrefix, HaltIs}
 use Rattle.slider_session.specs.declared.halt.Halt.{Halt}
 use Rattle.slider_session.specs.declared.halt.Halt.TheVariants as Halts
 use Rattle.slider_session.proofs.Stepping.{Goes, IsCut, IsRefused, ComesTo}
@@ -114,12 +114,12 @@ module _ {V : Type 0} (j : Meaning V) (w : WindowState) (most : ℕ) (fresh : Re
         the_fault t (inr (inl is)) = absurd (read is)
         the_fault t (inr (inr is)) = is
 
-    -- what was written is a front of the output
-    pub at_front : Told left later (λ l m. Unit {0}) → Told first later (λ script after. Told before now (GainsFront (output_of j w (commands most script))))
+    -- what was written is a prefix of the output
+    pub at_front : Told left later (λ l m. Unit {0}) → Told first later (λ script after. Told before now (GainsPrefix (output_of j w (commands most script))))
     at_front told =
-        told_with first later _ _ (told_then first left later (λ script l. outcome_of j w (commands most script) ≡ after_bytes s.gain (walk j (h.runs + 1) (state_of h) (to_come r l))) (λ l m. Unit {0}) (λ script m. IsFront s.gain (output_of j w (commands most script)))
+        told_with first later _ _ (told_then first left later (λ script l. outcome_of j w (commands most script) ≡ after_bytes s.gain (walk j (h.runs + 1) (state_of h) (to_come r l))) (λ l m. Unit {0}) (λ script m. IsPrefix s.gain (output_of j w (commands most script)))
         (λ x y z p q. ((walk j (h.runs + 1) (state_of h) (to_come r y)).0, ap (λ (o : Outcome). o.0) p)) s.walks told)
-        (λ script after a b front. told_with before now (λ old new. new ≡ old ++ s.gain) (GainsFront (output_of j w (commands most script))) s.written (λ old new c d wrote. (s.gain, front, wrote)))
+        (λ script after a b prefix. told_with before now (λ old new. new ≡ old ++ s.gain) (GainsPrefix (output_of j w (commands most script))) s.written (λ old new c d wrote. (s.gain, prefix, wrote)))
 
     -- the source failed
     pub at_read : (fresh.ahead ≡ []) → (fresh.room ≡ most) → (fresh.ended ≡ false) → (next : Reading) (fault : ScriptFault) → fault.why ≡ Read → (used : List ℕ) × Uses r next left later used × NextTaken r next used (Err fault) → Serves j w most first later before now (Err Halts.Read)
@@ -136,17 +136,17 @@ module _ {V : Type 0} (j : Meaning V) (w : WindowState) (most : ℕ) (fresh : Re
         ∙ ap (λ (o : Outcome). o.0) (s.taken was false took.0)
         ∙ ap (λ (l : List ℕ). s.gain ++ l) (nothing (from_line false ACommand (r.line + 1) took.0) why.3)
         ∙ append-nil s.gain in
-        let front : Told first later (λ script after. IsFront s.gain (output_of j w (commands most script))) =
-        told_then first left later (λ script l. outcome_of j w (commands most script) ≡ after_bytes s.gain (walk j (h.runs + 1) (state_of h) (to_come r l))) (λ l m. r.ahead ++ l ≡ took.0 ++ (next.ahead ++ m)) (λ script m. IsFront s.gain (output_of j w (commands most script)))
+        let prefix : Told first later (λ script after. IsPrefix s.gain (output_of j w (commands most script))) =
+        told_then first left later (λ script l. outcome_of j w (commands most script) ≡ after_bytes s.gain (walk j (h.runs + 1) (state_of h) (to_come r l))) (λ l m. r.ahead ++ l ≡ took.0 ++ (next.ahead ++ m)) (λ script m. IsPrefix s.gain (output_of j w (commands most script)))
         (λ x y z p q. ((walk j (h.runs + 1) (state_of h) (to_come r y)).0, ap (λ (o : Outcome). o.0) p)) s.walks took.1.bytes.bytes in
         let whole : output_of j w (commands most (whole_lines (past ++ next.ahead))) ≡ s.gain = ap (λ (l : List ℕ). output_of j w (commands most l)) (whole_lines-used past next.ahead ends why.2) ∙ out in
-        told_with first later _ _ (told_both first later (λ script after. fresh.ahead ++ script ≡ past ++ (next.ahead ++ after)) (λ script after. IsFront s.gain (output_of j w (commands most script))) all.bytes.bytes front)
+        told_with first later _ _ (told_both first later (λ script after. fresh.ahead ++ script ≡ past ++ (next.ahead ++ after)) (λ script after. IsPrefix s.gain (output_of j w (commands most script))) all.bytes.bytes prefix)
         (λ script after a b both. record {
           bytes = past ++ next.ahead;
           taken = sym (ap (λ (l : List ℕ). l ++ script) none) ∙ both.0 ∙ sym (append_assoc past next.ahead after);
           written = told_with before now (λ old new. new ≡ old ++ s.gain) (λ old new. new ≡ old ++ output_of j w (commands most (whole_lines (past ++ next.ahead)))) s.written
               (λ old new c d wrote. wrote ∙ ap (λ (l : List ℕ). old ++ l) (sym whole));
-          front = subst (λ (l : List ℕ). IsFront l (output_of j w (commands most script))) (sym whole) both.1;
+          prefix = subst (λ (l : List ℕ). IsPrefix l (output_of j w (commands most script))) (sym whole) both.1;
         })
       where
         not_mem : Mem ≡ Read → ⊥
@@ -174,12 +174,12 @@ module _ {V : Type 0} (j : Meaning V) (w : WindowState) (most : ℕ) (fresh : Re
         (all_written later (Faulty fault.line fault.why) script (is ∙ ap (after_bytes s.gain) (is_refused.ends (λ i v. walk j i v (to_come next after))))))
 
     -- it was cut short
-    pub at_cut : IsCut j h new c next.last now wrote → Told first later (λ script after. WritesFront j w most script before wrote)
+    pub at_cut : IsCut j h new c next.last now wrote → Told first later (λ script after. WritesPrefix j w most script before wrote)
     at_cut cut =
         told_with first later _ _ reached (λ script after a b is.
-        let front = cut.front (λ i v. walk j i v (to_come next after)) in
-        told_then before now wrote (λ old new. new ≡ old ++ s.gain) (λ old new. new ≡ old ++ cut.gain) (GainsFront (output_of j w (commands most script)))
-        (λ x y z p q. (s.gain ++ cut.gain, (front.0, ap (λ (o : Outcome). o.0) is ∙ ap (λ (l : List ℕ). s.gain ++ l) front.1 ∙ sym (append_assoc s.gain cut.gain front.0)), q ∙ ap (λ (l : List ℕ). l ++ cut.gain) p ∙ append_assoc x s.gain cut.gain))
+        let prefix = cut.prefix (λ i v. walk j i v (to_come next after)) in
+        told_then before now wrote (λ old new. new ≡ old ++ s.gain) (λ old new. new ≡ old ++ cut.gain) (GainsPrefix (output_of j w (commands most script)))
+        (λ x y z p q. (s.gain ++ cut.gain, (prefix.0, ap (λ (o : Outcome). o.0) is ∙ ap (λ (l : List ℕ). s.gain ++ l) prefix.1 ∙ sym (append_assoc s.gain cut.gain prefix.0)), q ∙ ap (λ (l : List ℕ). l ++ cut.gain) p ∙ append_assoc x s.gain cut.gain))
         s.written cut.written)
 
 -- serving begins
@@ -199,8 +199,8 @@ module _ {V : Type 0} (j : Meaning V) (w : WindowState) (most : ℕ) (fresh : Re
 -- serving did not begin
 pub nothing_yet : {V : Type 0} (j : Meaning V) (w : WindowState) (most : ℕ) (left before : Option (List ℕ)) → Serves j w most left left before before (Err Halts.Mem)
 nothing_yet j w most left before =
-    told_same left (λ script after. Told before before (GainsFront (output_of j w (commands most script)))) (λ script.
-    told_same before (GainsFront (output_of j w (commands most script))) (λ x. ([], (output_of j w (commands most script), refl), sym (append-nil x))))
+    told_same left (λ script after. Told before before (GainsPrefix (output_of j w (commands most script)))) (λ script.
+    told_same before (GainsPrefix (output_of j w (commands most script))) (λ x. ([], (output_of j w (commands most script), refl), sym (append-nil x))))
 
 module _ {V : Type 0} (j : Meaning V) (w : WindowState) (most : ℕ) (fresh : Reading) (h : Held) (r : Reading) (first left before now : Option (List ℕ)) (s : Stands j w most fresh h r first left before now) (next : Reading) (later : Option (List ℕ)) where
   -- the reader stopped with a fault

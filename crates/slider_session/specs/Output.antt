@@ -11,30 +11,30 @@ use Rattle.window_manager.specs.Windows.{WindowState, window_after, present, ref
 use Rattle.window_manager.specs.declared.fault.WindowFault.{WindowFault}
 use Rattle.window_manager.specs.declared.fault.WindowFault.TheVariants as Faults
 
--- what a job means at its setting: the records that it accepts, the pairs of a record, two values joined, the lines of a key
+-- What a job means at its setting: the records that it accepts, the pairs of a record, two values joined, the lines of a key.
 pub record Meaning (V : Type 0) : Type 0 where
   pub accepts : List ℕ → Bool
   pub emits : List ℕ → List (List ℕ × V)
   pub joined : V → V → V
   pub text : List ℕ → V → List ℕ
 
--- the meaning of these four
+-- The meaning of these four.
 abbrev pub meaning : {V : Type 0} → (List ℕ → Bool) → (List ℕ → List (List ℕ × V)) → (V → V → V) → (List ℕ → V → List ℕ) → Meaning V
 meaning accepts emits joined text = record { accepts = accepts; emits = emits; joined = joined; text = text }
 
--- what was written, and how the script ended
+-- What was written, and how the script ended.
 abbrev pub Outcome : Type 0
 Outcome = List ℕ × Ending
 
--- an outcome with these bytes written before
+-- An outcome with these bytes written before.
 abbrev pub after_bytes : List ℕ → Outcome → Outcome
 after_bytes bytes o = (bytes ++ o.0, o.1)
 
--- the first line of run i, over so many keys
+-- The first line of run i, over so many keys.
 abbrev pub header : ℕ → ℕ → List ℕ
 header i keys = codes "# run " ++ decimal i ++ (codes " keys " ++ decimal keys ++ codes "\n")
 
--- how a script ends at the command on a line that the window refuses: at that line, or at the record's
+-- How a script ends at the command on a line that the window refuses: at that line, or at the record's.
 abbrev pub ended_by : ℕ → WindowFault → Ending
 ended_by line Faults.NotHere = Faulty line Whys.NotHere
 ended_by line Faults.TooMany = Faulty line Whys.TooMany
@@ -42,34 +42,34 @@ ended_by line (Faults.BadRecord index) = Faulty (line + 1 + index) Whys.BadRecor
 ended_by line Faults.WindowLarge = Faulty line Whys.WindowLarge
 ended_by line Faults.Mem = Faulty line Whys.Mem
 
--- a command on a line that the window refuses, or else what comes behind it
+-- A command on a line that the window refuses, or else what comes behind it.
 abbrev pub unless_refused : Option WindowFault → ℕ → Outcome → Outcome
 unless_refused None line rest = rest
 unless_refused (Some fault) line rest = ([], ended_by line fault)
 
 module _ {V : Type 0} (j : Meaning V) where
-  -- what run i writes: its header, and the answer over the window's records
+  -- What run i writes: its header, and the answer over the window's records.
   abbrev pub piece : ℕ → WindowState → List ℕ
   piece i w = header i (length (keys_of (pairs_of j.emits (present w)))) ++ answer_of j.emits j.joined j.text (present w)
 
-  -- a command on a line, before run i over a window, where `go` says how the script goes on with the next run and the window
+  -- A command on a line, before run i over a window, where `go` says how the script goes on with the next run and the window.
   abbrev pub on_command : ℕ → WindowState → Command → ℕ → (ℕ → WindowState → Outcome) → Outcome
   on_command i w Run line go = after_bytes (piece i w) (go (i + 1) w)
   on_command i w c line go = unless_refused (refusal_of j.accepts w c) line (go i (window_after w c))
 
-  -- the commands one after the other, before run i over a window, and then the script's own ending
+  -- The commands one after the other, before run i over a window, and then the script's own ending.
   abbrev pub outcome_from : ℕ → WindowState → List (Command × ℕ) → Ending → Outcome
   outcome_from i w [] ending = ([], ending)
   outcome_from i w (c ∷ cs) ending = on_command i w c.0 c.1 (λ next window. outcome_from next window cs ending)
 
-  -- what is written for a script from the first run and a window on, and how it ends
+  -- What is written for a script from the first run and a window on, and how it ends.
   unfoldable pub outcome_of : WindowState → Script → Outcome
   outcome_of w script = outcome_from 1 w script.0 script.1
 
-  -- what is written for a script
+  -- What is written for a script.
   abbrev pub output_of : WindowState → Script → List ℕ
   output_of w script = (outcome_of w script).0
 
-  -- how a script ends: done, or at its first fault
+  -- How a script ends: done, or at its first fault.
   abbrev pub ending_of : WindowState → Script → Ending
   ending_of w script = (outcome_of w script).1

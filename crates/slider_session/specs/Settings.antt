@@ -2,7 +2,7 @@
 use Rattle.std.specs.Prelude.{◌≤◌}
 use Rattle.slider_session.specs.declared.settings.Settings.{Settings}
 
--- the numbers are within their limits
+-- The numbers are within their limits.
 pub record AreWithin (s : Settings) : Type 0 where
   pub parts : (1 ≤ s.parts) × (s.parts ≤ 16)
   pub workers : (1 ≤ s.workers) × (s.workers ≤ 16)

@@ -1,4 +1,4 @@
-// What a run writes: each leaf of the window is mapped to a sheet for each part, and the sheets of a part are merged.
+//! What a run writes: each leaf of the window is mapped to a sheet for each part, and the sheets of a part are merged.
 ghost use Rattle.std.specs.Prelude.{◌≡◌, ◌≤◌, ◌++◌, ℕ, List, length, All, IfOk};
 ghost use Rattle.definitions.specs.Tables.{table_of, merged};
 ghost use Rattle.definitions.specs.Answer.{pairs_of};

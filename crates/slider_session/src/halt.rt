@@ -1,4 +1,4 @@
-// Why serving a script stops early.
+//! Why serving a script stops early.
 use record_text::ScriptFault;
 
 /// Why serving a script stops early.

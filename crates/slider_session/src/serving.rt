@@ -1,4 +1,4 @@
-// Serves a whole script.
+//! Serves a whole script.
 ghost use Rattle.std.specs.Prelude.{◌≡◌, ◌<◌, ◌≤◌, ◌+◌, ◌-◌, ◌^◌, ◌++◌, [], ℕ, List, length, IsErrOf, None};
 ghost use Rattle.definitions.specs.Outside.{Rose};
 ghost use Rattle.window_manager.specs.Windows.{empty_window};

@@ -1,4 +1,4 @@
-// One script's window and its runs.
+//! One script's window and its runs.
 ghost use Rattle.std.specs.Prelude.{◌≡◌, ◌<◌, ◌≤◌, ◌^◌, ℕ, List, length, IfOk, IsErrOf};
 ghost use Rattle.definitions.specs.Outside.{Rose};
 ghost use Rattle.record_text.specs.declared.command.Command.TheVariants.{Run};

@@ -1,4 +1,4 @@
-// How a script is worked.
+//! How a script is worked.
 ghost use Rattle.std.specs.Prelude.{◌≡◌, ◌↔◌, IsTrue, false};
 ghost use Rattle.slider_session.specs.Settings.{AreWithin};
 

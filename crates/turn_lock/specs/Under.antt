@@ -2,11 +2,11 @@
 use Rattle.std.specs.Prelude.{ℕ, Bool, false, eqb, List, Option, Some, None}
 use Rattle.std.specs.List.{filter}
 
--- it stands under this number
+-- It stands under this number.
 abbrev pub is_of : ℕ → Option ℕ → Bool
 is_of n None = false
 is_of n (Some k) = eqb k n
 
--- those of the entries, in order
+-- Those of the entries, in order.
 abbrev pub under : {E : Type 0} → (E → Option ℕ) → ℕ → List E → List E
 under whose n es = filter (λ e. is_of n (whose e)) es

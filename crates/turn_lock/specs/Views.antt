@@ -3,17 +3,17 @@ use Rattle.std.specs.Prelude.{ℕ, []}
 use Rattle.atomic_table.specs.Seated.{TableId}
 use Rattle.turn_lock.specs.declared.knowledge.Known.{Known}
 
--- a lock's name, which no other lock shares, its first ticket, and how many passes it was made with
+-- A lock's name, which no other lock shares, its first ticket, and how many passes it was made with.
 pub record LockView : Type 0 where
   pub id : TableId
   pub start : ℕ
   pub callers : ℕ
 
--- whose lock's a pass is, and what its holder knows
+-- Whose lock's a pass is, and what its holder knows.
 pub record PassView (E : Type 0) : Type 0 where
   pub lock : TableId
   pub known : Known E
 
--- the pass with this number, before its first turn
+-- The pass with this number, before its first turn.
 abbrev pub unplayed : {E : Type 0} → TableId → ℕ → PassView E
 unplayed id n = record { lock = id; known = record { number = n; seen = []; mine = []; read = 0 } }

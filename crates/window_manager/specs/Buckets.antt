@@ -11,28 +11,28 @@ use Rattle.window_manager.specs.Slides.{Slid, not_slid, slid_after, slid_anew, F
 use Rattle.window_manager.specs.declared.fault.WindowFault.{WindowFault}
 use Rattle.window_manager.specs.declared.fault.WindowFault.TheVariants.{Mem}
 
--- a window of buckets: what it holds, and what is known of its change since the last run
+-- A window of buckets: what it holds, and what is known of its change since the last run.
 pub record BucketView : Type 0 where
   pub window : WindowState
   pub slid : Slid
 
--- before the first command
+-- Before the first command.
 abbrev pub no_buckets : Kind → ℕ → BucketView
 no_buckets kind places = record { window = empty_window kind places; slid = not_slid }
 
--- after a command
+-- After a command.
 abbrev pub buckets_after : BucketView → Command → BucketView
 buckets_after v c = record { window = window_after v.window c; slid = slid_after v.window c v.slid }
 
--- after a run
+-- After a run.
 abbrev pub buckets_anew : BucketView → BucketView
 buckets_anew v = record { window = v.window; slid = slid_anew (length v.window.leaves) v.slid }
 
--- how many leaves leave at the front where a new one comes: the oldest of a circle that is full
+-- How many leaves leave at the front where a new one comes: the oldest of a circle that is full.
 abbrev pub leaving : Kind → ℕ → ℕ → ℕ
 leaving kind places count = if is_circle kind && nat_le places count then 1 else 0
 
--- what holds of every window of buckets
+-- What holds of every window of buckets.
 pub record IsOfBuckets (w : WindowState) : Type 0 where
   pub buckets : w.kind ≢ Kinds.Document
   pub some : 1 ≤ w.places
@@ -41,19 +41,19 @@ pub record IsOfBuckets (w : WindowState) : Type 0 where
   pub count : length w.leaves ≤ 65536
   pub circle : w.kind ≡ Kinds.Circle → length w.leaves ≤ w.places
 
--- what is kept beside the buckets: the size of their text, and how they changed
+-- What is kept beside the buckets: the size of their text, and how they changed.
 pub record AreKept (w : WindowState) (size : ℕ) (shift : Shift) : Type 0 where
   pub window : IsOfBuckets w
   pub sized : size ≡ text_size w.leaves
   pub fits : FitsCount shift (length w.leaves)
 
--- nothing refuses a command whose records are accepted
+-- Nothing refuses a command whose records are accepted.
 pub record IsAllowed (w : WindowState) (c : Command) : Type 0 where
   pub has : has_command w.kind c ≡ true
   pub few : asks_too_many w c ≡ false
   pub small : is_large (window_after w c) ≡ false
 
--- a command was carried out, or refused with the window as it was: want of memory comes only where nothing refuses it
+-- A command was carried out, or refused with the window as it was: want of memory comes only where nothing refuses it.
 abbrev pub Applied : (List ℕ → Bool) → BucketView → BucketView → Command → Result (Unit {0}) WindowFault → Type 0
 Applied accepts old new c (Ok done) = (refusal_of accepts old.window c ≡ None) × (new ≡ buckets_after old c)
 Applied accepts old new c (Err Mem) = (refusal_of accepts old.window c ≡ None) × (new ≡ old)

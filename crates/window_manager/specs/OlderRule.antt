@@ -13,13 +13,13 @@ use Rattle.window_manager.specs.Windows.{Leaf, WindowState, empty_window, with_l
 use Rattle.window_manager.specs.declared.fault.WindowFault.{WindowFault}
 use Rattle.window_manager.specs.declared.fault.WindowFault.TheVariants.{NotHere, TooMany}
 
--- what a window holds: its kind, how many places a circle has, and its leaves
+-- What a window holds: its kind, how many places a circle has, and its leaves.
 pub record OlderState : Type 0 where
   pub kind : Kind
   pub places : ℕ
   pub leaves : List Leaf
 
--- the leaves after a command
+-- The leaves after a command.
 abbrev pub older_leaves : OlderState → Command → List Leaf
 older_leaves w (Bucket records) = with_leaf w.kind w.places w.leaves records
 older_leaves w (Drop n) = drop n w.leaves
@@ -28,11 +28,11 @@ older_leaves w (Edit at del ins) = chunks_of (spliced at del ins (joined w.leave
 older_leaves w (Load records) = chunks_of records
 older_leaves w command = w.leaves
 
--- the window after a command
+-- The window after a command.
 abbrev pub older_after : OlderState → Command → OlderState
 older_after w c = record w { leaves = older_leaves w c }
 
--- which commands a kind has
+-- Which commands a kind has.
 abbrev pub older_has : Kind → Command → Bool
 older_has Kinds.Buckets (Bucket records) = true
 older_has Kinds.Buckets (Drop n) = true
@@ -44,7 +44,7 @@ older_has Kinds.Document (Edit at del ins) = true
 older_has Kinds.Document (Load records) = true
 older_has kind command = false
 
--- whether a command asks for more than there is, or than there may be
+-- Whether a command asks for more than there is, or than there may be.
 abbrev pub older_asks_too_many : OlderState → Command → Bool
 older_asks_too_many w (Bucket records) = not (is_circle w.kind) && nat_le 65536 (length w.leaves)
 older_asks_too_many w (Drop n) = nat_lt (length w.leaves) n
@@ -52,35 +52,35 @@ older_asks_too_many w (Late place more) = nat_le (length w.leaves) place
 older_asks_too_many w (Edit at del ins) = nat_lt (length (joined w.leaves)) (at + del)
 older_asks_too_many w command = false
 
--- why a command is refused: the first reason in this order
+-- Why a command is refused: the first reason in this order.
 abbrev pub older_refusal : (List ℕ → Bool) → OlderState → Command → Option WindowFault
 older_refusal accepts w c =
     if not (older_has w.kind c) then Some NotHere
     else if older_asks_too_many w c then Some TooMany
     else record_refusal (first_refused accepts (brought c)) (nat_lt 268435456 (length (text_of (joined (older_leaves w c)))))
 
--- how it goes on behind a command, where it is not refused
+-- How it goes on behind a command, where it is not refused.
 abbrev pub unless_refused : Option WindowFault → Result (List Leaf) WindowFault → Result (List Leaf) WindowFault
 unless_refused None more = more
 unless_refused (Some fault) more = Err fault
 
--- the leaves after commands, or the first refusal
+-- The leaves after commands, or the first refusal.
 abbrev pub leaves_after : (List ℕ → Bool) → WindowState → List Command → Result (List Leaf) WindowFault
 leaves_after accepts w [] = Ok w.leaves
 leaves_after accepts w (c ∷ cs) = unless_refused (refusal_of accepts w c) (leaves_after accepts (window_after w c) cs)
 
--- the same by the older rule
+-- The same by the older rule.
 abbrev pub older_leaves_after : (List ℕ → Bool) → OlderState → List Command → Result (List Leaf) WindowFault
 older_leaves_after accepts w [] = Ok w.leaves
 older_leaves_after accepts w (c ∷ cs) = unless_refused (older_refusal accepts w c) (older_leaves_after accepts (older_after w c) cs)
 
--- a command that names no file
+-- A command that names no file.
 abbrev pub NamesNoFile : Command → Type 0
 NamesNoFile (File name) = ⊥
 NamesNoFile (Remove name) = ⊥
 NamesNoFile command = Unit {0}
 
--- over commands that name no file both rules give the same leaves and the same refusals
+-- Over commands that name no file both rules give the same leaves and the same refusals.
 abbrev pub SameWithoutFiles : Type 0
 SameWithoutFiles = (accepts : List ℕ → Bool) (kind : Kind) (places : ℕ) (cs : List Command) → All NamesNoFile cs →
     leaves_after accepts (empty_window kind places) cs ≡ older_leaves_after accepts (record { kind = kind; places = places; leaves = [] }) cs

@@ -7,32 +7,32 @@ use Rattle.record_text.specs.declared.shift.Shift.{Shift}
 use Rattle.record_text.specs.declared.shift.Shift.TheVariants.{Slide, Splice}
 use Rattle.window_manager.specs.Windows.{WindowState, window_after}
 
--- what is known of the buckets of a window: how many it accepted, how many stood at the last run, how many of those that
--- stand came since then, and the places of the others that gained records since then
+-- What is known of the buckets of a window: how many it accepted, how many stood at the last run, how many of those that
+-- stand came since then, and the places of the others that gained records since then.
 pub record Slid : Type 0 where
   pub accepted : ℕ
   pub stood : ℕ
   pub fresh : ℕ
   pub late : List ℕ
 
--- before the first command
+-- Before the first command.
 abbrev pub not_slid : Slid
 not_slid = record { accepted = 0; stood = 0; fresh = 0; late = [] }
 
--- places, once so many leaves left at the front
+-- Places, once so many leaves left at the front.
 abbrev pub lowered : ℕ → List ℕ → List ℕ
 lowered by places = map (λ p. p - by) (filter (λ p. nat_le by p) places)
 
--- rising places with one more among them
+-- Rising places with one more among them.
 abbrev pub with_place : ℕ → List ℕ → List ℕ
 with_place place places = filter (λ p. nat_lt p place) places ++ place ∷ filter (λ p. nat_lt place p) places
 
--- the late places, once these records came to the leaf at a place: only the first `old` leaves stood at the last run
+-- The late places, once these records came to the leaf at a place: only the first `old` leaves stood at the last run.
 abbrev pub late_after : ℕ → ℕ → List (List ℕ) → List ℕ → List ℕ
 late_after old place [] late = late
 late_after old place (r ∷ rs) late = if nat_lt place old then with_place place late else late
 
--- after a command that a window carried out
+-- After a command that a window carried out.
 abbrev pub slid_after : WindowState → Command → Slid → Slid
 slid_after w (Bucket records) s =
     let count = length (window_after w (Bucket records)).leaves in
@@ -41,27 +41,27 @@ slid_after w (Drop n) s = record s { fresh = min s.fresh (length w.leaves - n); 
 slid_after w (Late place more) s = record s { late = late_after (length w.leaves - s.fresh) place more s.late }
 slid_after w c s = s
 
--- after a run over so many leaves
+-- After a run over so many leaves.
 abbrev pub slid_anew : ℕ → Slid → Slid
 slid_anew count s = record { accepted = s.accepted; stood = count; fresh = 0; late = [] }
 
--- the shift of a window of so many buckets: the number of the first, how many that stood at the last run left, which of
--- the others gained records, and how many came
+-- The shift of a window of so many buckets: the number of the first, how many that stood at the last run left, which of
+-- the others gained records, and how many came.
 abbrev pub slide_of : ℕ → Slid → Shift
 slide_of count s = Slide (s.accepted - count) (s.stood - (count - s.fresh)) s.late s.fresh
 
--- what a shift says of a window of so many buckets
+-- What a shift says of a window of so many buckets.
 abbrev pub slid_by : Shift → ℕ → Slid
 slid_by (Slide first gone places fresh) count = record { accepted = first + count; stood = gone + (count - fresh); fresh = fresh; late = places }
 slid_by (Splice first gone fresh) count = not_slid
 
--- a shift of a window of so many buckets: the late places are of leaves that stood at the last run
+-- A shift of a window of so many buckets: the late places are of leaves that stood at the last run.
 abbrev pub FitsCount : Shift → ℕ → Type 0
 FitsCount (Slide first gone places fresh) count = (fresh ≤ count) × (gone + (count - fresh) ≤ 65536) × All (λ p. p < count - fresh) places
 FitsCount (Splice first gone fresh) count = ⊥
 
--- the shift of a window of so many buckets, `stood` of which were there at the last run: what stayed, went and came adds
--- up, and the late places are of leaves that stayed
+-- The shift of a window of so many buckets, `stood` of which were there at the last run: what stayed, went and came adds
+-- up, and the late places are of leaves that stayed.
 abbrev pub FitsSlide : ℕ → Shift → ℕ → Type 0
 FitsSlide stood (Slide first gone places fresh) count = (fresh ≤ count) × (stood ≡ gone + (count - fresh)) × All (λ p. p < count - fresh) places
 FitsSlide stood (Splice first gone fresh) count = ⊥

@@ -16,39 +16,39 @@ use Rattle.window_manager.specs.declared.fault.WindowFault.TheVariants.{Mem}
 use Rattle.window_manager.specs.declared.held.Held.{Held}
 use Rattle.window_manager.specs.declared.held.Held.TheVariants.{OfBuckets, OfDocument}
 
--- a window: what it holds, what is known of its leaves since the last run, and of a document the splice since then
+-- A window: what it holds, what is known of its leaves since the last run, and of a document the splice since then.
 pub record WindowView : Type 0 where
   pub window : WindowState
   pub slid : Slid
   pub splice : Shift
 
--- no change
+-- No change.
 abbrev pub no_splice : Shift
 no_splice = Splice 0 0 0
 
--- before the first command
+-- Before the first command.
 abbrev pub no_leaves : Kind → ℕ → WindowView
 no_leaves kind places = record { window = empty_window kind places; slid = not_slid; splice = no_splice }
 
--- after a run
+-- After a run.
 abbrev pub view_anew : WindowView → WindowView
 view_anew v = record { window = v.window; slid = slid_anew (length v.window.leaves) v.slid; splice = no_splice }
 
--- how the leaves changed since the last run: a document by its splice, buckets by their slide
+-- How the leaves changed since the last run: a document by its splice, buckets by their slide.
 abbrev pub shift_by : Kind → ℕ → Slid → Shift → Shift
 shift_by Kinds.Document count slid splice = splice
 shift_by kind count slid splice = slide_of count slid
 
--- the shift of a window of so many leaves, `stood` of which were there at the last run
+-- The shift of a window of so many leaves, `stood` of which were there at the last run.
 abbrev pub FitsShift : Kind → ℕ → Shift → ℕ → Type 0
 FitsShift Kinds.Document stood shift count = FitsSplice stood shift count
 FitsShift kind stood shift count = FitsSlide stood shift count
 
--- the shift of a window
+-- The shift of a window.
 abbrev pub shift_of : WindowView → Shift
 shift_of v = shift_by v.window.kind (length v.window.leaves) v.slid v.splice
 
--- after a command that a window carried out
+-- After a command that a window carried out.
 pub record IsDone (old new : WindowView) (c : Command) : Type 0 where
   pub window : new.window ≡ window_after old.window c
   pub slid : new.slid ≡ slid_after old.window c old.slid
@@ -57,18 +57,18 @@ pub record IsDone (old new : WindowView) (c : Command) : Type 0 where
   pub spliced : old.window.kind ≡ Kinds.Document → IsSplice old.window.leaves new.window.leaves change
   pub splice : new.splice ≡ splice_after old.slid.stood (length old.window.leaves) (length new.window.leaves) old.splice change
 
--- a command was carried out, or refused with the window as it was: want of memory comes only where nothing refuses it
+-- A command was carried out, or refused with the window as it was: want of memory comes only where nothing refuses it.
 abbrev pub Done : Option WindowFault → WindowView → WindowView → Command → Result (Unit {0}) WindowFault → Type 0
 Done refusal old new c (Ok done) = (refusal ≡ None) × IsDone old new c
 Done refusal old new c (Err Mem) = (refusal ≡ None) × (new ≡ old)
 Done refusal old new c (Err fault) = (refusal ≡ Some fault) × (new ≡ old)
 
--- what a window is seen as, by what it is made of
+-- What a window is seen as, by what it is made of.
 abbrev pub view_of : Held → WindowView
 view_of (OfBuckets b) = record { window = b.window; slid = b.slid; splice = no_splice }
 view_of (OfDocument d) = record { window = d.window; slid = record { accepted = 0; stood = d.stood; fresh = 0; late = [] }; splice = d.splice }
 
--- what it is made of fits its kind
+-- What it is made of fits its kind.
 abbrev pub FitsKind : Held → Type 0
 FitsKind (OfBuckets b) = b.window.kind ≢ Kinds.Document
 FitsKind (OfDocument d) = d.window.kind ≡ Kinds.Document

@@ -12,12 +12,12 @@ use Rattle.record_text.specs.declared.command.Command.TheVariants.{Bucket, Drop,
 use Rattle.window_manager.specs.declared.fault.WindowFault.{WindowFault}
 use Rattle.window_manager.specs.declared.fault.WindowFault.TheVariants.{NotHere, TooMany, BadRecord, WindowLarge}
 
--- a leaf: a list of records
+-- A leaf: a list of records.
 abbrev pub Leaf : Type 0
 Leaf = List (List ℕ)
 
--- what a window holds: its kind, how many places a circle has, its leaves, and of a document its files, each with the
--- chunks into which its records are cut, and the name of the current one. The leaves of a document are these chunks
+-- What a window holds: its kind, how many places a circle has, its leaves, and of a document its files, each with the
+-- chunks into which its records are cut, and the name of the current one. The leaves of a document are these chunks.
 pub record WindowState : Type 0 where
   pub kind : Kind
   pub places : ℕ
@@ -25,42 +25,42 @@ pub record WindowState : Type 0 where
   pub files : List NamedFile
   pub current : List ℕ
 
--- a window before its first command
+-- A window before its first command.
 abbrev pub empty_window : Kind → ℕ → WindowState
 empty_window kind places = record { kind = kind; places = places; leaves = []; files = []; current = [] }
 
--- the records of a window: those of its leaves, end to end
+-- The records of a window: those of its leaves, end to end.
 abbrev pub present : WindowState → List (List ℕ)
 present w = joined w.leaves
 
--- the last `n` of a list, or all where there are fewer
+-- The last `n` of a list, or all where there are fewer.
 abbrev pub last_of : {A : Type 0} → ℕ → List A → List A
 last_of n xs = drop (length xs - n) xs
 
--- the leaves with one more behind them: a circle keeps as many as it has places
+-- The leaves with one more behind them: a circle keeps as many as it has places.
 abbrev pub with_leaf : Kind → ℕ → List Leaf → Leaf → List Leaf
 with_leaf Kinds.Circle places leaves leaf = last_of places (leaves ++ leaf ∷ [])
 with_leaf kind places leaves leaf = leaves ++ leaf ∷ []
 
--- the leaves with records added at the end of one, by its place
+-- The leaves with records added at the end of one, by its place.
 abbrev pub with_late : ℕ → List (List ℕ) → List Leaf → List Leaf
 with_late place more [] = []
 with_late zero more (leaf ∷ leaves) = (leaf ++ more) ∷ leaves
 with_late (suc place) more (leaf ∷ leaves) = leaf ∷ with_late place more leaves
 
--- the document with these files
+-- The document with these files.
 abbrev pub with_files : WindowState → List NamedFile → WindowState
 with_files w files = record w { leaves = all_chunks files; files = files }
 
--- the records of the current file
+-- The records of the current file.
 abbrev pub current_records : WindowState → List (List ℕ)
 current_records w = joined (file_at w.current w.files)
 
--- the document whose current file has these records, cut from nothing
+-- The document whose current file has these records, cut from nothing.
 abbrev pub with_current : WindowState → List (List ℕ) → WindowState
 with_current w records = with_files w (with_file w.current (chunks_of records) w.files)
 
--- the window after a command
+-- The window after a command.
 abbrev pub window_after : WindowState → Command → WindowState
 window_after w (Bucket records) = record w { leaves = with_leaf w.kind w.places w.leaves records }
 window_after w (Drop n) = record w { leaves = drop n w.leaves }
@@ -71,7 +71,7 @@ window_after w (Edit at del ins) = with_current w (spliced at del ins (current_r
 window_after w (Load records) = with_current w records
 window_after w Run = w
 
--- which commands a kind has
+-- Which commands a kind has.
 abbrev pub has_command : Kind → Command → Bool
 has_command Kinds.Buckets (Bucket records) = true
 has_command Kinds.Buckets (Drop n) = true
@@ -85,16 +85,16 @@ has_command Kinds.Document (Edit at del ins) = true
 has_command Kinds.Document (Load records) = true
 has_command kind command = false
 
--- whether a kind lets the oldest leaf go for a new one
+-- Whether a kind lets the oldest leaf go for a new one.
 abbrev pub is_circle : Kind → Bool
 is_circle Kinds.Circle = true
 is_circle kind = false
 
--- whether these records would make the current file one too many: it has none, and as many files as may have records
+-- Whether these records would make the current file one too many: it has none, and as many files as may have records.
 abbrev pub is_one_too_many : WindowState → List (List ℕ) → Bool
 is_one_too_many w records = (length (current_records w) == 0) && nat_lt 0 (length records) && nat_le 65536 (length w.files)
 
--- whether a command asks for more than there is, or than there may be
+-- Whether a command asks for more than there is, or than there may be.
 abbrev pub asks_too_many : WindowState → Command → Bool
 asks_too_many w (Bucket records) = not (is_circle w.kind) && nat_le 65536 (length w.leaves)
 asks_too_many w (Drop n) = nat_lt (length w.leaves) n
@@ -103,7 +103,7 @@ asks_too_many w (Edit at del ins) = nat_lt (length (current_records w)) (at + de
 asks_too_many w (Load records) = is_one_too_many w records
 asks_too_many w command = false
 
--- the records that a command brings
+-- The records that a command brings.
 abbrev pub brought : Command → List (List ℕ)
 brought (Bucket records) = records
 brought (Late place more) = more
@@ -111,25 +111,25 @@ brought (Edit at del ins) = ins
 brought (Load records) = records
 brought command = []
 
--- the index of the first record that is not accepted, where the first of these has the index `at`
+-- The index of the first record that is not accepted, where the first of these has the index `at`.
 abbrev pub refused_from : (List ℕ → Bool) → ℕ → List (List ℕ) → Option ℕ
 refused_from accepts at [] = None
 refused_from accepts at (r ∷ rs) = if accepts r then refused_from accepts (at + 1) rs else Some at
 
--- the index of the first record that is not accepted
+-- The index of the first record that is not accepted.
 abbrev pub first_refused : (List ℕ → Bool) → List (List ℕ) → Option ℕ
 first_refused accepts records = refused_from accepts 0 records
 
--- whether a window has more text than it may have
+-- Whether a window has more text than it may have.
 abbrev pub is_large : WindowState → Bool
 is_large w = nat_lt 268435456 (length (text_of (present w)))
 
--- the refusal of a record, or else of the text that there would be
+-- The refusal of a record, or else of the text that there would be.
 abbrev pub record_refusal : Option ℕ → Bool → Option WindowFault
 record_refusal (Some index) large = Some (BadRecord index)
 record_refusal None large = if large then Some WindowLarge else None
 
--- why a command is refused: the first reason in this order
+-- Why a command is refused: the first reason in this order.
 abbrev pub refusal_of : (List ℕ → Bool) → WindowState → Command → Option WindowFault
 refusal_of accepts w c =
     if not (has_command w.kind c) then Some NotHere

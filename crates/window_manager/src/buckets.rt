@@ -1,4 +1,4 @@
-// A window of buckets: in a row, in a circle of places, or one that only grows.
+//! A window of buckets: in a row, in a circle of places, or one that only grows.
 ghost use Rattle.std.specs.Prelude.{ℕ, Bool, List, ◌≡◌, ◌≢◌, ◌≤◌, ◌<◌, ◌+◌, ◌^◌, ◌&&◌, not, nat_le, [], length, false, drop, OnOk, OnErr, slice_index_or};
 ghost use Rattle.record_text.specs.declared.kind.Kind.TheVariants as Kinds;
 ghost use Rattle.record_text.specs.declared.command.Command.TheVariants.{Bucket, Drop, Late, Run};

@@ -1,4 +1,4 @@
-// A window over an edited document in files.
+//! A window over an edited document in files.
 ghost use Rattle.std.specs.Prelude.{◌≡◌, ◌<◌, [], true, false, OnOk, OnErr, length, slice_index_or};
 ghost use Rattle.record_text.specs.declared.kind.Kind.TheVariants as Kinds;
 ghost use Rattle.record_text.specs.declared.command.Command.TheVariants.{Edit, File, Load, Remove};

@@ -1,4 +1,4 @@
-// Why a window refuses a command.
+//! Why a window refuses a command.
 use thiserror::Error;
 
 /// Why a window refuses a command, in the order in which the causes are tested.

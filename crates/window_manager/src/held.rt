@@ -1,4 +1,4 @@
-// What a window is made of.
+//! What a window is made of.
 use crate::buckets::BucketWindow;
 use crate::document::DocumentWindow;
 

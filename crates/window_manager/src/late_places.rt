@@ -1,4 +1,4 @@
-// The places of leaves that gained records.
+//! The places of leaves that gained records.
 ghost use Rattle.std.specs.Prelude.{◌≡◌, ◌++◌, ◌<◌, All, nat_lt, IfOk, OnOk};
 ghost use Rattle.std.specs.List.{filter};
 ghost use Rattle.window_manager.specs.Slides.{lowered, with_place};

@@ -1,4 +1,4 @@
-// What holds of the definitions.
+//! What holds of the definitions.
 ghost use Rattle.window_manager.specs.OlderRule.{SameWithoutFiles};
 ghost use Rattle.window_manager.specs.Splices.{SplicesJoin};
 

@@ -1,4 +1,4 @@
-// The leaves of a window of buckets.
+//! The leaves of a window of buckets.
 ghost use Rattle.std.specs.Prelude.{ℕ, List, ◌≡◌, ◌≤◌, ◌<◌, ◌+◌, length, drop};
 ghost use Rattle.record_text.specs.declared.command.Command.TheVariants.{Drop, Late};
 ghost use Rattle.std.specs.VecDeque.{deque_capacity};

@@ -1,4 +1,4 @@
-// The records that a job refuses, and the text that a window would have.
+//! The records that a job refuses, and the text that a window would have.
 ghost use Rattle.std.specs.Prelude.{◌≡◌, ◌<◌, ◌≤◌, ◌+◌, length, nat_lt, IfSome, OnOk, IfOk, ◌++◌};
 ghost use Rattle.definitions.specs.Records.{text_of};
 ghost use Rattle.window_manager.specs.Windows.{first_refused, record_refusal};

@@ -1,4 +1,4 @@
-// How the buckets of a window changed since its last run.
+//! How the buckets of a window changed since its last run.
 ghost use Rattle.std.specs.Prelude.{◌≡◌, ◌<◌, ◌≤◌, ◌+◌, ◌-◌, ◌^◌, min, nat_lt, if◌then◌else◌, OnOk, OnErr};
 ghost use Rattle.window_manager.specs.Slides.{FitsCount, Slid, slid_by, lowered, with_place};
 

@@ -1,4 +1,4 @@
-// Tests of windows, with leaves and shifts written by hand.
+//! Tests of windows, with leaves and shifts written by hand.
 ghost use Rattle.std.specs.Prelude.{◌≡◌, ◌≤◌, ◌<◌, ◌^◌, ◌∷◌, [], length, nat_le, refl};
 ghost use Rattle.job_laws.specs.Encoding.{be64};
 

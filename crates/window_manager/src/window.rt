@@ -1,4 +1,4 @@
-// A window of any kind.
+//! A window of any kind.
 ghost use Rattle.std.specs.Prelude.{◌≡◌, ◌≤◌, ◌<◌, ◌^◌, [], length, slice_index_or};
 ghost use Rattle.window_manager.specs.Windows.{refusal_of};
 ghost use Rattle.window_manager.specs.Views.{Done, FitsShift, no_leaves, shift_of, view_anew};

@@ -8,71 +8,71 @@ use Rattle.worker_claims.specs.declared.knowledge.View.{View}
 use Rattle.worker_claims.specs.declared.knowledge.Doing.{Doing}
 use Rattle.worker_claims.specs.declared.knowledge.Doing.TheVariants.{Spent, Free, Held, Ended}
 
--- a sum over a list
+-- A sum over a list.
 abbrev pub total : {A : Type 0} → (A → ℕ) → List A → ℕ
 total f [] = 0
 total f (x ∷ xs) = f x + total f xs
 
--- not spent
+-- Not spent.
 abbrev pub Live : Doing → Type 0
 Live Spent = ⊥
 Live _ = Unit {0}
 
--- 1 where the numbers are the same, else 0
+-- 1 where the numbers are the same, else 0.
 abbrev pub one_if : ℕ → ℕ → ℕ
 one_if k n = cond (eqb k n) 1 0
 
--- how often the number is in hand
+-- How often the number is in hand.
 abbrev pub in_hand : ℕ → Doing → ℕ
 in_hand k (Held n) = one_if k n
 in_hand k _ = 0
 
--- how many of the hands may still come for a task
+-- How many of the hands may still come for a task.
 abbrev pub comers : ℕ → Doing → ℕ
 comers n Spent = 0
 comers n (Ended k) = 0
 comers n _ = n
 
 module _ {T : Type 0} where
-  -- the slots that a hand has with it, and its note that it has ended, fit what it is doing
+  -- The slots that a hand has with it, and its note that it has ended, fit what it is doing.
   abbrev pub Carries : List T → Doing → Bool → List (ℕ × Option T) → Type 0
   Carries tasks Spent ended slots = ⊥
   Carries tasks Free ended slots = (ended ≡ false) × (slots ≡ [])
   Carries tasks (Held k) ended slots = (ended ≡ false) × (slots ≡ (k, None) ∷ [])
   Carries tasks (Ended n) ended slots = (ended ≡ true) × (slots ≡ []) × (length tasks ≤ n)
 
-  -- a view, by its parts
+  -- A view, by its parts.
   abbrev pub made : ℕ → List T → Doing → List (ℕ × T) → View T
   made parts tasks doing given = record { parts = parts; tasks = tasks; doing = doing; given = given }
 
-  -- the first view, which stands for all hands
+  -- The first view, which stands for all hands.
   abbrev pub newcomer : List T → ℕ → View T
   newcomer tasks hands = made hands tasks Free []
 
-  -- what is left of a view that went into another
+  -- What is left of a view that went into another.
   abbrev pub spent : View T
   spent = made 0 [] Spent []
 
-  -- what a view and a new one are when a hand is made
+  -- What a view and a new one are when a hand is made.
   abbrev pub without_one : View T → View T
   without_one v = made (v.parts - 1) v.tasks v.doing v.given
 
   abbrev pub the_one : View T → View T
   the_one v = made 1 v.tasks Free []
 
-  -- a view that takes in another
+  -- A view that takes in another.
   abbrev pub with : View T → View T → View T
   with v w = made (v.parts + w.parts) v.tasks v.doing (v.given ++ w.given)
 
-  -- the same view, doing something else
+  -- The same view, doing something else.
   abbrev pub at_work : Doing → View T → View T
   at_work d v = made v.parts v.tasks d v.given
 
-  -- the task of this number was given back
+  -- The task of this number was given back.
   abbrev pub has_given : ℕ → T → View T → View T
   has_given k t v = made v.parts v.tasks Free (v.given ++ (k, t) ∷ [])
 
-  -- how often the number stands among what was given or is in hand
+  -- How often the number stands among what was given or is in hand.
   abbrev pub has : ℕ → View T → ℕ
   has k v = in_hand k v.doing + total (λ (g : ℕ × T). one_if k g.0) v.given
 
@@ -82,49 +82,49 @@ module _ {T : Type 0} where
   abbrev pub rest_of : View T → ℕ
   rest_of v = comers v.parts v.doing
 
-  -- a number in hand is a task's and was claimed; a hand has ended at a number that is no task's
+  -- A number in hand is a task's and was claimed; a hand has ended at a number that is no task's.
   abbrev pub InDoing : List T → ℕ → Doing → Type 0
   InDoing tasks word (Ended n) = (length tasks ≤ n) × (n < word)
   InDoing tasks word (Held k) = (k < length tasks) × (k < word)
   InDoing tasks word _ = Unit {0}
 
-  -- one view, held against the tasks and the next number
+  -- One view, held against the tasks and the next number.
   pub record SeatFits (tasks : List T) (word : ℕ) (v : View T) : Type 0 where
     pub tasks_are : v.tasks ≡ tasks
     pub some_part : 0 < v.parts
     pub doing : InDoing tasks word v.doing
 
-  -- a number that was claimed is in hand, or was given
+  -- A number that was claimed is in hand, or was given.
   abbrev pub Claimed : List (View T) → List (maybe.Option (Option T)) → ℕ → Type 0
   Claimed views homes k =
       ((j : ℕ) × (v : View T) × (get_elem? views j ≡ some v) × (v.doing ≡ Held k))
       ⊎ ((j : ℕ) × (v : View T) × (i : ℕ) × (t : T) × (get_elem? views j ≡ some v) × Live v.doing × (get_elem? v.given i ≡ some (k, t)) × (get_elem? homes k ≡ some (some (Some t))))
 
-  -- what holds between any two steps
+  -- What holds between any two steps.
   pub record Kept (tasks : List T) (hands : ℕ) (s : State (Option T) (View T)) : Type 0 where
-    -- the number that is claimed next
+    -- The number that is claimed next.
     pub word : ℕ
     pub words_are : s.words ≡ word ∷ []
     pub limit : (length tasks < 2 ^ 32) × (hands ≤ 16)
     pub slots : length s.homes ≡ length tasks
     pub seats : (j : ℕ) (v : View T) → get_elem? s.views j ≡ some v → Live v.doing → SeatFits tasks word v
     pub gone : (j : ℕ) (v : View T) → get_elem? s.views j ≡ some v → v.doing ≡ Spent → v ≡ spent
-    -- so the word does not wrap
+    -- So the word does not wrap.
     pub few : word + total rest_of s.views ≤ length tasks + hands
-    -- the views stand for all hands
+    -- The views stand for all hands.
     pub shared : total parts s.views ≡ hands
-    -- what was not claimed is home, as it was handed in
+    -- What was not claimed is home, as it was handed in.
     pub fresh : (k : ℕ) (x : T) → word ≤ k → get_elem? tasks k ≡ some x → get_elem? s.homes k ≡ some (some (Some x))
     pub done : (k : ℕ) → k < word → k < length tasks → Claimed s.views s.homes k
-    -- no number is claimed twice, and none before its time
+    -- No number is claimed twice, and none before its time.
     pub once : (k : ℕ) → total (has k) s.views ≤ 1
     pub unclaimed : (k : ℕ) → word ≤ k → total (has k) s.views ≡ 0
 
-  -- the number is greater than each number that was given
+  -- The number is greater than each number that was given.
   abbrev pub IsAbove : List (ℕ × T) → ℕ → Type 0
   IsAbove given n = (i k : ℕ) (t : T) → get_elem? given i ≡ some (k, t) → k < n
 
-  -- what the steps tell: the seat before, the number found, the seat after
+  -- What the steps tell: the seat before, the number found, the seat after.
   abbrev pub claimed : Step (Option T) → Me (Option T) (View T) → ℕ → Me (Option T) (View T) → Type 0
   claimed st m r n = (r < length m.0.tasks → (x : T) × (get_elem? m.0.tasks r ≡ some x) × (n ≡ (at_work (Held r) m.0, (r, Some x) ∷ m.1)))
       × (length m.0.tasks ≤ r → n ≡ (at_work (Ended r) m.0, m.1))

@@ -4,19 +4,19 @@ use Rattle.atomic_table.specs.Seated.{TableId}
 use Rattle.worker_claims.specs.declared.knowledge.Doing.{Doing}
 use Rattle.worker_claims.specs.declared.knowledge.Doing.TheVariants.{Free}
 
--- a board's name, which no other board shares, the tasks as they were handed in, and how many hands it was made with
+-- A board's name, which no other board shares, the tasks as they were handed in, and how many hands it was made with.
 pub record BoardView (T : Type 0) : Type 0 where
   pub id : TableId
   pub tasks : List T
   pub hands : ℕ
 
--- whose board's a hand is, the tasks of that board, what it is doing, and what it gave back, with its numbers
+-- Whose board's a hand is, the tasks of that board, what it is doing, and what it gave back, with its numbers.
 pub record HandView (T : Type 0) : Type 0 where
   pub board : TableId
   pub tasks : List T
   pub doing : Doing
   pub given : List (ℕ × T)
 
--- a hand that has done nothing yet
+-- A hand that has done nothing yet.
 abbrev pub fresh : {T : Type 0} → TableId → List T → HandView T
 fresh id tasks = record { board = id; tasks = tasks; doing = Free; given = [] }

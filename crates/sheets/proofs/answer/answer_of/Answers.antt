@@ -1,7 +1,7 @@
 use Rattle.std.proofs.Common.{◌≡◌, ◌++◌, [], All, length, refl, sym, subst, ap, ◌∙◌, arith}
 use Rattle.std.specs.Prelude.{drop, slice_set, slice_index_or}
 use Rattle.definitions.specs.Tables.{IsRising, HasGoodValues}
-use Rattle.definitions.specs.Outside.{GainsFront}
+use Rattle.definitions.specs.Outside.{GainsPrefix}
 use Rattle.definitions.specs.Answer.{lines_of}
 use Rattle.sheets.specs.United.{Apart, united}
 use Rattle.sheets.proofs.AnswerSteps.{Written, written-first, written-front, written-cut, written-end, united-nothing, first_taken, rest_is}
@@ -35,7 +35,7 @@ returns-in-Err-line-clause-err g c =
     let left = first_taken (g.J.Job.good s) ts c.as_slice.result.now c.in-Some.i c.index.result.now e inv.rising inv.good inv.apart c.as_slice.ensures.value c.in-Some.ensures.some c.index.ensures c.in-Some-first.ensures.some in
     let all = lines_of text (united c.in-Ok.rests.items) in
     let written = subst (Written text c.args.out.now.items c.entries.out.items all) left.union inv.written in
-    subst (λ tables. GainsFront (lines_of text (united tables)) c.args.out.now.items c.line.new.out.items) c.in-Ok.ensures.tables
+    subst (λ tables. GainsPrefix (lines_of text (united tables)) c.args.out.now.items c.line.new.out.items) c.in-Ok.ensures.tables
     (written-cut text c.args.out.now.items c.entries.out.items c.line.new.out.items all e (united (slice_set ts c.in-Some.i t)) written c.in-Err-line.ensures.err)
 
 pub returns-in-None-clause-err : goal.returns-in-None-clause-err
@@ -49,7 +49,7 @@ returns-in-None-clause-err g c =
     let left = first_taken (g.J.Job.good s) ts c.as_slice.result.now c.in-Some.i c.index.result.now e inv.rising inv.good inv.apart c.as_slice.ensures.value c.in-Some.ensures.some c.index.ensures c.in-Some-first.ensures.some in
     let all = lines_of text (united c.in-Ok.rests.items) in
     let written = written-first text c.args.out.now.items c.entries.out.items c.line.new.out.items all e (united (slice_set ts c.in-Some.i t)) (subst (Written text c.args.out.now.items c.entries.out.items all) left.union inv.written) c.in-Ok-line.ensures.ok in
-    subst (λ tables. GainsFront (lines_of text (united tables)) c.args.out.now.items c.line.new.out.items) c.in-Ok.ensures.tables
+    subst (λ tables. GainsPrefix (lines_of text (united tables)) c.args.out.now.items c.line.new.out.items) c.in-Ok.ensures.tables
     (written-front text c.args.out.now.items c.line.new.out.items all (united (slice_set ts c.in-Some.i t)) written)
 
 pub entries-smaller : goal.entries-smaller

@@ -19,7 +19,7 @@ returns-in-Err-Script-clause-answered g c =
     fault_answered (meaning (g.J.Job.accepts s) (g.J.Job.emits s) (g.J.Job.joined s) (g.J.Job.text s)) (empty_window c.args.kind c.args.settings.places)
     record { left = g.S.Source.left c.args.source.now; held = g.K.Sink.held c.args.out.now; said = g.E.Sink.held c.args.err.now; source_faults = g.S.Source.faults c.args.source.now; out_faults = g.K.Sink.faults c.args.out.now; err_faults = g.E.Sink.faults c.args.err.now }
     record { left = g.S.Source.left c.serve.new.source; held = g.K.Sink.held c.serve.new.out; said = g.E.Sink.held c.status_of_fault.new.err; source_faults = g.S.Source.faults c.serve.new.source; out_faults = g.K.Sink.faults c.serve.new.out; err_faults = g.E.Sink.faults c.status_of_fault.new.err }
-    c.status_of_fault.result c.in-Err-Script.fault.line c.in-Err-Script.fault.why (rw c.in-Err-Script.field-0-is at c.in-Err-Script.ensures.serves) f.status f.tried f.front
+    c.status_of_fault.result c.in-Err-Script.fault.line c.in-Err-Script.fault.why (rw c.in-Err-Script.field-0-is at c.in-Err-Script.ensures.serves) f.status f.tried f.prefix
 
 pub returns-in-Err-Read-clause-answered : goal.returns-in-Err-Read-clause-answered
 returns-in-Err-Read-clause-answered g c =

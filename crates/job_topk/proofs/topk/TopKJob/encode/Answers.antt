@@ -1,7 +1,7 @@
 use Rattle.std.proofs.Common.{◌≡◌, ◌≤◌, ◌<◌, ◌++◌, ◌∙◌, ℕ, List, ap, subst, get_or, length, arith}
 use Rattle.std.proofs.lemmas.List.{take_all}
 use Rattle.std.proofs.lemmas.Result.{err_from_is_err_and}
-use Rattle.definitions.specs.Outside.{GainsFront}
+use Rattle.definitions.specs.Outside.{GainsPrefix}
 use Rattle.job_laws.proofs.Gains.{piece_more, gains_next}
 use Rattle.job_topk.specs.TopK.{member_encoded, topk_encoded}
 use Rattle.job_topk.proofs.topk.TopKJob.encode.Goals as goal
@@ -16,8 +16,8 @@ returns-in_err-put_encoded-clause-err g c =
     let within : i < length v = grind arith in
     let mid = c.members.out.items in
     let new = c.put_encoded.new.out.items in
-    let front : GainsFront (member_encoded m) mid new = c.in_err-put_encoded.ensures.err in
-    rw p.1 (gains_next member_encoded v i m within c.args.out.now.items mid new c.members.invariant (subst (λ (x : ℕ × List ℕ). GainsFront (member_encoded x) mid new) stands front))
+    let front : GainsPrefix (member_encoded m) mid new = c.in_err-put_encoded.ensures.err in
+    rw p.1 (gains_next member_encoded v i m within c.args.out.now.items mid new c.members.invariant (subst (λ (x : ℕ × List ℕ). GainsPrefix (member_encoded x) mid new) stands front))
 
 pub members-preserved : goal.members-preserved
 members-preserved g c =

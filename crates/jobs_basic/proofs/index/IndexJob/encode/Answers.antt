@@ -1,6 +1,6 @@
 use Rattle.std.proofs.Common.{◌≡◌, ◌<◌, ◌++◌, ◌∙◌, ap, sym, get_or, length, subst, arith}
 use Rattle.std.proofs.lemmas.Result.{err_from_is_err_and}
-use Rattle.definitions.specs.Outside.{GainsFront}
+use Rattle.definitions.specs.Outside.{GainsPrefix}
 use Rattle.job_laws.specs.Encoding.{be32}
 use Rattle.job_laws.proofs.Gains.{gains_nothing, piece_more, gains_next}
 use Rattle.jobs_basic.proofs.index.IndexJob.encode.Goals as goal
@@ -13,7 +13,7 @@ returns-in_err-extend_from_slice-clause-err g c =
     let within : i < length v = grind arith in
     let stays : c.extend_from_slice.new.self.items ≡ c.docs.out.items = grind arith in
     rw p.1 (gains_next be32 v i 0 within c.args.out.now.items c.docs.out.items c.extend_from_slice.new.self.items c.docs.invariant
-    (subst (GainsFront (be32 (get_or v i 0)) c.docs.out.items) (sym stays) (gains_nothing (be32 (get_or v i 0)) c.docs.out.items)))
+    (subst (GainsPrefix (be32 (get_or v i 0)) c.docs.out.items) (sym stays) (gains_nothing (be32 (get_or v i 0)) c.docs.out.items)))
 
 pub docs-preserved : goal.docs-preserved
 docs-preserved g c =
