@@ -2,12 +2,11 @@
 use Rattle.std.proofs.Common.{◌≡◌, ℕ, Bool, true, false, cond, List, [], ◌∷◌, Some, None, refl, sym, ap, subst, ◌∙◌}
 use Rattle.std.specs.declared.cmp.Ordering.{Ordering}
 use Rattle.std.specs.declared.cmp.Ordering.TheVariants.{Less, Equal, Greater}
-use Rattle.std.specs.Ordering.{eq_by_cmp, is_eq, is_lt, ordering_reverse}
+use Rattle.std.specs.Ordering.{eq_by_cmp, is_eq, is_lt}
 use Rattle.std.specs.FinMap.Entries.{is_sorted, below_all, by_order}
-use Rattle.std.proofs.lemmas.Cmp.{nat_list_cmp_total}
 use lib.Dec.{T}
 use Rattle.definitions.specs.Tables.{key_cmp, IsRising, value_at, joined_found, merged, merge_into, merge_in_order}
-use Rattle.definitions.proofs.TableLaws.{tied_keys, both, first, second, is_true, passes, same_tables, value_at-merged, IsRising-merged}
+use Rattle.definitions.proofs.TableLaws.{tied_keys, turned, below_chain, both, first, second, is_true, passes, same_tables, value_at-merged, IsRising-merged}
 
 module _ {V : Type 0} (join : V → V → V) where
   -- whatever is below both lists is below their merge
@@ -24,19 +23,10 @@ module _ {V : Type 0} (join : V → V → V) where
   below-merge x [] a u b = b
   below-merge x (e ∷ t) a u b = below-merge_into x e (merge_in_order join t) (first _ _ a) (below-merge x t (second _ _ a)) u b
 
-  less_chain : (x y : List ℕ) (es : List (List ℕ × V)) → key_cmp x y ≡ Less → T (below_all key_cmp y es) → T (below_all key_cmp x es)
-  less_chain x y [] lt below = tt
-  less_chain x y (e ∷ es) lt below = both _ _ (subst (λ o. T (is_lt o)) (sym (nat_list_cmp_total.trans x y e.0 lt (is_less _ (first _ _ below)))) tt) (less_chain x y es lt (second _ _ below))
-    where
-      is_less : (o : Ordering) → T (is_lt o) → o ≡ Less
-      is_less Less h = refl
-      is_less Equal h = absurd h
-      is_less Greater h = absurd h
-
   below_greater : (e f : List ℕ × V) (t : List (List ℕ × V)) → key_cmp e.0 f.0 ≡ Greater → T (below_all key_cmp e.0 t) → T (below_all key_cmp f.0 (e ∷ t))
   below_greater e f t is below =
-      let less : key_cmp f.0 e.0 ≡ Less = nat_list_cmp_total.antisymm f.0 e.0 ∙ ap ordering_reverse is in
-      both _ _ (subst (λ o. T (is_lt o)) (sym less) tt) (less_chain f.0 e.0 t less below)
+      let less : key_cmp f.0 e.0 ≡ Less = turned e.0 f.0 Greater is in
+      both _ _ (subst (λ o. T (is_lt o)) (sym less) tt) (below_chain f.0 e.0 t less below)
 
   -- a key below all is not there
   absent-below : (q k : List ℕ) (es : List (List ℕ × V)) → q ≡ k → T (below_all key_cmp k es) → value_at es q ≡ None
@@ -55,7 +45,7 @@ module _ {V : Type 0} (join : V → V → V) where
   rising-merge (e ∷ t) a (f ∷ u) b = order_case (key_cmp e.0 f.0) refl (λ u b. rising-merge t (second _ _ a) u b) (rising-merge (e ∷ t) a u (second _ _ b))
     where
       order_case : (o : Ordering) → key_cmp e.0 f.0 ≡ o → ((w : List (List ℕ × V)) → T (is_sorted key_cmp w) → T (is_sorted key_cmp (merge_in_order join t w))) → T (is_sorted key_cmp (merge_in_order join (e ∷ t) u)) → T (is_sorted key_cmp (by_order o (e ∷ merge_in_order join t (f ∷ u)) ((e.0, join e.1 f.1) ∷ merge_in_order join t u) (f ∷ merge_into join e (merge_in_order join t) u)))
-      order_case Less is ih ih2 = both _ _ (below-merge e.0 t (first _ _ a) (f ∷ u) (both _ _ (subst (λ o. T (is_lt o)) (sym is) tt) (less_chain e.0 f.0 u is (first _ _ b)))) (ih (f ∷ u) b)
+      order_case Less is ih ih2 = both _ _ (below-merge e.0 t (first _ _ a) (f ∷ u) (both _ _ (subst (λ o. T (is_lt o)) (sym is) tt) (below_chain e.0 f.0 u is (first _ _ b)))) (ih (f ∷ u) b)
       order_case Equal is ih ih2 = both _ _ (below-merge e.0 t (first _ _ a) u (subst (λ k. T (below_all key_cmp k u)) (sym (tied_keys e.0 f.0 (ap is_eq is))) (first _ _ b))) (ih u (second _ _ b))
       order_case Greater is ih ih2 = both _ _ (below-merge f.0 (e ∷ t) (below_greater e f t is (first _ _ a)) u (first _ _ b)) ih2
 
@@ -70,7 +60,7 @@ module _ {V : Type 0} (join : V → V → V) where
           → value_at (merge_in_order join (e ∷ t) u) q ≡ joined_found join (value_at (e ∷ t) q) (value_at u q)
           → value_at (by_order o (e ∷ merge_in_order join t (f ∷ u)) ((e.0, join e.1 f.1) ∷ merge_in_order join t u) (f ∷ merge_into join e (merge_in_order join t) u)) q ≡ joined_found join (cond x (Some e.1) (value_at t q)) (cond y (Some f.1) (value_at u q))
       order_case Less is true xs y ys ih ih2 =
-          let none : value_at (f ∷ u) q ≡ None = absent-below q e.0 (f ∷ u) (tied_keys q e.0 xs) (both _ _ (subst (λ o. T (is_lt o)) (sym is) tt) (less_chain e.0 f.0 u is (first _ _ b))) in
+          let none : value_at (f ∷ u) q ≡ None = absent-below q e.0 (f ∷ u) (tied_keys q e.0 xs) (both _ _ (subst (λ o. T (is_lt o)) (sym is) tt) (below_chain e.0 f.0 u is (first _ _ b))) in
           rw xs (sym (ap (joined_found join (Some e.1)) (ap (λ z. cond z (Some f.1) (value_at u q)) (sym ys) ∙ none)))
       order_case Less is false xs y ys ih ih2 = rw xs (ih (f ∷ u) b ∙ ap (λ z. joined_found join (value_at t q) (cond z (Some f.1) (value_at u q))) ys)
       order_case Equal is x xs y ys ih ih2 =

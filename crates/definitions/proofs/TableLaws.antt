@@ -1,12 +1,12 @@
 -- A table is known by its value at each key, so its laws are laws of optional values.
-use Rattle.std.proofs.Common.{◌≡◌, ℕ, Bool, true, false, cond, ◌||◌, ◌&&◌, List, [], ◌∷◌, ◌++◌, fold, Option, Some, None, refl, sym, ap, subst, ◌∙◌, is_some, map}
+use Rattle.std.proofs.Common.{◌≡◌, ℕ, Bool, true, false, cond, ◌||◌, ◌&&◌, List, [], ◌∷◌, ◌++◌, fold, Option, Some, None, refl, sym, ap, subst, ◌∙◌, is_some, map, append-nil}
 use Rattle.std.specs.List.{list_any}
 use Rattle.std.specs.declared.cmp.Ordering.{Ordering}
 use Rattle.std.specs.declared.cmp.Ordering.TheVariants.{Less, Equal, Greater}
-use Rattle.std.specs.Ordering.{eq_by_cmp, is_eq, is_lt}
+use Rattle.std.specs.Ordering.{eq_by_cmp, is_eq, is_lt, ordering_reverse}
 use Rattle.std.specs.FinMap as finite
 use Rattle.std.specs.FinMap.Entries.{is_sorted, below_all, same_entries}
-use Rattle.std.proofs.lemmas.Cmp.{nat_list_cmp_total}
+use Rattle.std.proofs.lemmas.Cmp.{nat_list_cmp_total, tied_itself}
 use lib.Dec.{T}
 use Rattle.definitions.specs.Tables.{key_cmp, IsRising, value_at, values_with, joined_all, reduced, keys_of, entry_of, tabulate, table_of, joined_found, merged, AllGood, HasGoodValues, IsGoodJoin}
 
@@ -18,6 +18,19 @@ tied_keys q k e = finite.slice_cmp-IsAntisymmetric finite.nat_cmp-IsAntisymmetri
     is_equal Less h = cc
     is_equal Equal h = refl
     is_equal Greater h = cc
+
+-- a key ties with itself
+pub eq_itself : (k : List ℕ) → eq_by_cmp key_cmp k k ≡ true
+eq_itself k = ap is_eq (tied_itself nat_list_cmp_total k)
+
+-- the order of two keys the other way round
+pub turned : (x y : List ℕ) (o : Ordering) → key_cmp x y ≡ o → key_cmp y x ≡ ordering_reverse o
+turned x y o is = nat_list_cmp_total.antisymm y x ∙ ap ordering_reverse is
+
+pub is_less : (o : Ordering) → T (is_lt o) → o ≡ Less
+is_less Less h = refl
+is_less Equal h = absurd h
+is_less Greater h = absurd h
 
 pub is_true : (b : Bool) → T b → b ≡ true
 is_true true h = refl
@@ -39,6 +52,11 @@ pub passes : (b : Bool) → b ≡ true → T b
 passes b h = subst T (sym h) tt
 
 module _ {V : Type 0} where
+  -- what is below a key is below all that this key is below
+  pub below_chain : (x y : List ℕ) (es : List (List ℕ × V)) → key_cmp x y ≡ Less → T (below_all key_cmp y es) → T (below_all key_cmp x es)
+  below_chain x y [] lt below = tt
+  below_chain x y (e ∷ es) lt below = both _ _ (subst (λ o. T (is_lt o)) (sym (nat_list_cmp_total.trans x y e.0 lt (is_less _ (first _ _ below)))) tt) (below_chain x y es lt (second _ _ below))
+
   entry_step : (f : List ℕ → Option V) (k q : List ℕ) (es : List (List ℕ × V)) (any b : Bool) (o : Option V) → eq_by_cmp key_cmp q k ≡ b → f k ≡ o → value_at es q ≡ cond any (f q) None → value_at (entry_of k o ++ es) q ≡ cond (b || any) (f q) None
   entry_step f k q es any true None tied is ih =
       let none : f q ≡ None = ap f (tied_keys q k tied) ∙ is in
@@ -62,15 +80,17 @@ module _ {V : Type 0} where
   listed-keys es q = sym (finite.contains_key-keys (finite.from_entries es) q) ∙ ap is_some (finite.get-from_entries nat_list_cmp_total es q)
 
   -- the first value, or else the other
-  abbrev either : Option V → Option V → Option V
+  abbrev pub either : Option V → Option V → Option V
   either None b = b
   either (Some a) b = Some a
 
-  value_at-append : (t u : List (List ℕ × V)) (q : List ℕ) → value_at (t ++ u) q ≡ either (value_at t q) (value_at u q)
+  -- the value at a key in two lists end to end
+  pub value_at-append : (t u : List (List ℕ × V)) (q : List ℕ) → value_at (t ++ u) q ≡ either (value_at t q) (value_at u q)
   value_at-append [] u q = refl
   value_at-append (e ∷ t) u q = elim (eq_by_cmp key_cmp q e.0) as (λ b. cond b (Some e.1) (value_at (t ++ u) q) ≡ either (cond b (Some e.1) (value_at t q)) (value_at u q)) [ true ↦ refl | false ↦ value_at-append t u q ]
 
-  values_with-append : (xs ys : List (List ℕ × V)) (q : List ℕ) → values_with (xs ++ ys) q ≡ values_with xs q ++ values_with ys q
+  -- the values of a key in two lists end to end
+  pub values_with-append : (xs ys : List (List ℕ × V)) (q : List ℕ) → values_with (xs ++ ys) q ≡ values_with xs q ++ values_with ys q
   values_with-append [] ys q = refl
   values_with-append (e ∷ xs) ys q = elim (eq_by_cmp key_cmp q e.0) as (λ b. cond b (e.1 ∷ values_with (xs ++ ys) q) (values_with (xs ++ ys) q) ≡ cond b (e.1 ∷ values_with xs q) (values_with xs q) ++ values_with ys q) [ true ↦ ap (λ vs. e.1 ∷ vs) (values_with-append xs ys q) | false ↦ values_with-append xs ys q ]
 
@@ -145,6 +165,36 @@ module _ {V : Type 0} (join : V → V → V) where
   unfolding merged
   IsRising-merged t u = IsRising-over_keys (λ k. joined_found join (value_at t k) (value_at u k)) (t ++ u)
 
+  fold_more : (a v : V) (ws : List V) → fold join a (ws ++ v ∷ []) ≡ join (fold join a ws) v
+  fold_more a v [] = refl
+  fold_more a v (w ∷ ws) = fold_more (join a w) v ws
+
+  joined_more : (vs : List V) (v : V) → joined_all join (vs ++ v ∷ []) ≡ joined_found join (joined_all join vs) (Some v)
+  joined_more [] v = refl
+  joined_more (w ∷ ws) v = ap Some (fold_more w v ws)
+
+  -- what pairs reduce to with one more
+  pub reduced_push : (ps : List (List ℕ × V)) (p : List ℕ × V) (q : List ℕ) → reduced join (ps ++ p ∷ []) q ≡ cond (eq_by_cmp key_cmp q p.0) (joined_found join (reduced join ps q) (Some p.1)) (reduced join ps q)
+  reduced_push ps p q =
+      ap (joined_all join) (values_with-append ps (p ∷ []) q)
+      ∙ elim (eq_by_cmp key_cmp q p.0) as (λ b. joined_all join (values_with ps q ++ cond b (p.1 ∷ []) []) ≡ cond b (joined_found join (reduced join ps q) (Some p.1)) (reduced join ps q)) [
+        | true ↦ joined_more (values_with ps q) p.1
+        | false ↦ ap (joined_all join) (append-nil (values_with ps q))
+      ]
+
+  -- rising entries with what the pairs reduce to are their table
+  pub is_table : (t ps : List (List ℕ × V)) → IsRising t → ((q : List ℕ) → value_at t q ≡ reduced join ps q) → t ≡ table_of join ps
+  is_table t ps rises is = same_tables t (table_of join ps) rises (IsRising-table ps) (λ q. is q ∙ sym (value_at-table ps q))
+
+module _ {V : Type 0} (good : V → Type 0) where
+  -- the value at a key is good
+  pub good-value_at : (es : List (List ℕ × V)) (q : List ℕ) (v : V) → HasGoodValues good es → value_at es q ≡ Some v → good v
+  good-value_at [] q v g is = cc
+  good-value_at (e ∷ es) q v g is = elim (eq_by_cmp key_cmp q e.0) as (λ b. cond b (Some e.1) (value_at es q) ≡ Some v → good v) [ true ↦ λ is. subst good (same e.1 v is) g.0 | false ↦ good-value_at es q v g.1 ] is
+    where
+      same : (a b : V) → Some a ≡ Some b → a ≡ b
+      same a b h = cc
+
 module _ {V : Type 0} {good : V → Type 0} {join : V → V → V} (laws : IsGoodJoin good join) where
   -- joining a to what is joined
   join-fold : (a w : V) (ws : List V) → good a → good w → AllGood good ws → join a (fold join w ws) ≡ fold join (join a w) ws
@@ -185,19 +235,15 @@ module _ {V : Type 0} {good : V → Type 0} {join : V → V → V} (laws : IsGoo
   found_assoc (Some a) (Some b) None ga gb gc = refl
   found_assoc (Some a) (Some b) (Some c) ga gb gc = ap Some (laws.assoc a b c (ga a refl) (gb b refl) (gc c refl))
 
-  good-value_at : (es : List (List ℕ × V)) (q : List ℕ) → HasGoodValues good es → GoodFound (value_at es q)
+  found-value_at : (es : List (List ℕ × V)) (q : List ℕ) → HasGoodValues good es → GoodFound (value_at es q)
   unfolding GoodFound
-  good-value_at [] q g v is = cc
-  good-value_at (e ∷ es) q g v is = elim (eq_by_cmp key_cmp q e.0) as (λ b. cond b (Some e.1) (value_at es q) ≡ Some v → good v) [ true ↦ λ is. subst good (same e.1 v is) g.0 | false ↦ good-value_at es q g.1 v ] is
-    where
-      same : (a b : V) → Some a ≡ Some b → a ≡ b
-      same a b h = cc
+  found-value_at es q g v is = good-value_at good es q v g is
 
   -- merging is associative on tables of good values
   pub merged_assoc : (t u w : List (List ℕ × V)) → HasGoodValues good t → HasGoodValues good u → HasGoodValues good w → merged join (merged join t u) w ≡ merged join t (merged join u w)
   merged_assoc t u w gt gu gw = same_tables _ _ (IsRising-merged join _ w) (IsRising-merged join t _) (λ q.
       value_at-merged join (merged join t u) w q ∙ ap (λ o. joined_found join o (value_at w q)) (value_at-merged join t u q)
-      ∙ found_assoc _ _ _ (good-value_at t q gt) (good-value_at u q gu) (good-value_at w q gw)
+      ∙ found_assoc _ _ _ (found-value_at t q gt) (found-value_at u q gu) (found-value_at w q gw)
       ∙ sym (value_at-merged join t (merged join u w) q ∙ ap (joined_found join (value_at t q)) (value_at-merged join u w q)))
 
   good-tabulate : (f : List ℕ → Option V) → ((k : List ℕ) (v : V) → f k ≡ Some v → good v) → (ks : List (List ℕ)) → HasGoodValues good (tabulate f ks)
@@ -232,13 +278,13 @@ module _ {V : Type 0} {good : V → Type 0} {join : V → V → V} (laws : IsGoo
   -- the values of a merged table are good
   pub good-merged : (t u : List (List ℕ × V)) → HasGoodValues good t → HasGoodValues good u → HasGoodValues good (merged join t u)
   unfolding merged GoodFound
-  good-merged t u gt gu = good-tabulate (λ k. joined_found join (value_at t k) (value_at u k)) (λ k v is. good-found (value_at t k) (value_at u k) (good-value_at t k gt) (good-value_at u k gu) v is) (keys_of (t ++ u))
+  good-merged t u gt gu = good-tabulate (λ k. joined_found join (value_at t k) (value_at u k)) (λ k v is. good-found (value_at t k) (value_at u k) (found-value_at t k gt) (found-value_at u k gu) v is) (keys_of (t ++ u))
 
   -- merging is commutative on tables of good values, where joining is on good values
   pub merged_comm : ((a b : V) → good a → good b → join a b ≡ join b a) → (t u : List (List ℕ × V)) → HasGoodValues good t → HasGoodValues good u → merged join t u ≡ merged join u t
   unfolding GoodFound
   merged_comm comm t u gt gu = same_tables _ _ (IsRising-merged join t u) (IsRising-merged join u t) (λ q.
-      value_at-merged join t u q ∙ swap (value_at t q) (value_at u q) (good-value_at t q gt) (good-value_at u q gu) ∙ sym (value_at-merged join u t q))
+      value_at-merged join t u q ∙ swap (value_at t q) (value_at u q) (found-value_at t q gt) (found-value_at u q gu) ∙ sym (value_at-merged join u t q))
     where
       swap : (a b : Option V) → GoodFound a → GoodFound b → joined_found join a b ≡ joined_found join b a
       swap None None ga gb = refl

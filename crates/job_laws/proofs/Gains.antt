@@ -1,5 +1,5 @@
 -- What was gained where a call gave up, or went on.
-use Rattle.std.proofs.Common.{◌≡◌, ℕ, ◌+◌, ◌<◌, List, [], ◌++◌, length, get_or, take, drop, refl, sym, ap, subst, ◌∙◌, append-nil, append_assoc}
+use Rattle.std.proofs.Common.{◌≡◌, ℕ, ◌+◌, ◌<◌, List, [], ◌∷◌, ◌++◌, length, get_or, take, drop, refl, sym, ap, subst, ◌∙◌, append-nil, append_assoc}
 use Rattle.std.specs.Prelude.{Result, Ok, Err, OnErr, is_ok, if◌then◌else◌}
 use Rattle.std.specs.List.{flat_map}
 use Rattle.std.proofs.lemmas.List.{take_more, take-append-drop, drop_more, flat_map_more}
@@ -15,10 +15,37 @@ gains_nothing all old = ([], (all, refl), sym (append-nil old))
 pub gains_no_pairs : {V : Type 0} (all old : List (List ℕ × V)) → GainsPairs all old old
 gains_no_pairs all old = ([], all, refl, sym (append-nil old))
 
--- unless the call gave up, nothing is said
+-- where the call gave up, nothing was gained
 pub gains_unless_ok : {A E : Type 0} (r : Result A E) (all more old new : List ℕ) → new ≡ (if is_ok r then old ++ more else old) → OnErr r (GainsPrefix all old new)
 gains_unless_ok (Ok x) all more old new is = tt
 gains_unless_ok (Err e) all more old new is = subst (GainsPrefix all old) (sym is) (gains_nothing all old)
+
+-- Of all pairs, the rest is still to be emitted.
+pub record Emitted {V : Type 0} (all old now rest : List (List ℕ × V)) : Type 0 where
+  pub gain : List (List ℕ × V)
+  pub is : now ≡ old ++ gain
+  pub parts : gain ++ rest ≡ all
+
+module _ {V : Type 0} where
+  -- all pairs are still to be emitted
+  pub emitted_start : (all old : List (List ℕ × V)) → Emitted all old old all
+  emitted_start all old = record { gain = []; is = sym (append-nil old); parts = refl }
+
+  -- one pair more was emitted
+  pub emitted_more : (all old now new rest more : List (List ℕ × V)) (p : List ℕ × V) → Emitted all old now rest → rest ≡ p ∷ more → new ≡ now ++ p ∷ [] → Emitted all old new more
+  emitted_more all old now new rest more p e split put = record {
+    gain = e.gain ++ p ∷ [];
+    is = put ∙ ap (λ l. l ++ p ∷ []) e.is ∙ append_assoc old e.gain (p ∷ []);
+    parts = append_assoc e.gain (p ∷ []) more ∙ ap (λ l. e.gain ++ l) (sym split) ∙ e.parts;
+  }
+
+  -- whatever was emitted is a prefix of all
+  pub emitted_prefix : (all old now new rest : List (List ℕ × V)) → Emitted all old now rest → new ≡ now → GainsPairs all old new
+  emitted_prefix all old now new rest e same = (e.gain, rest, sym e.parts, same ∙ e.is)
+
+  -- where nothing is left, all pairs were emitted
+  pub emitted_end : (all old now rest : List (List ℕ × V)) → Emitted all old now rest → rest ≡ [] → now ≡ old ++ all
+  emitted_end all old now rest e done = e.is ∙ ap (λ l. old ++ l) (sym (append-nil e.gain) ∙ ap (λ l. e.gain ++ l) (sym done) ∙ e.parts)
 
 module _ {A : Type 0} (f : A → List ℕ) (v : List A) (i : ℕ) (d : A) (within : i < length v) where
   -- one piece more
@@ -32,11 +59,11 @@ module _ {A : Type 0} (f : A → List ℕ) (v : List A) (i : ℕ) (d : A) (withi
   -- the pieces before one were gained, and a prefix of it
   pub gains_next : (old mid new : List ℕ) → mid ≡ old ++ flat_map f (take i v) → GainsPrefix (f (get_or v i d)) mid new → GainsPrefix (flat_map f v) old new
   gains_next old mid new at g =
-      let front = flat_map f (take i v) in
+      let before = flat_map f (take i v) in
       let rest = flat_map f (drop (i + 1) v) in
-      let all : flat_map f v ≡ (front ++ g.0) ++ (g.1.0 ++ rest) =
+      let all : flat_map f v ≡ (before ++ g.0) ++ (g.1.0 ++ rest) =
       all_pieces
-      ∙ ap (λ l. front ++ (l ++ rest)) g.1.1
-      ∙ ap (λ l. front ++ l) (append_assoc g.0 g.1.0 rest)
-      ∙ sym (append_assoc front g.0 (g.1.0 ++ rest)) in
-      (front ++ g.0, (g.1.0 ++ rest, all), g.2 ∙ ap (λ l. l ++ g.0) at ∙ append_assoc old front g.0)
+      ∙ ap (λ l. before ++ (l ++ rest)) g.1.1
+      ∙ ap (λ l. before ++ l) (append_assoc g.0 g.1.0 rest)
+      ∙ sym (append_assoc before g.0 (g.1.0 ++ rest)) in
+      (before ++ g.0, (g.1.0 ++ rest, all), g.2 ∙ ap (λ l. l ++ g.0) at ∙ append_assoc old before g.0)

@@ -1,2 +1,5 @@
+pub mod CountLaws
 pub mod FirstTab
 pub mod Gains
+mod PlacedLaws
+pub mod RowLaws

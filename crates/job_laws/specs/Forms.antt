@@ -1,5 +1,6 @@
--- The form of the records that each job accepts. A record is a list of bytes without LF; a field ends before a TAB.
-use Rattle.std.specs.Prelude.{ℕ, Bool, true, false, ◌&&◌, ◌==◌, cond, List, [], ◌∷◌, Option, Some, None, option_map}
+-- The form of the records that each job accepts: lists of bytes of a record's length, in which a field ends before a TAB.
+use Rattle.std.specs.Prelude.{ℕ, Bool, true, false, ◌&&◌, ◌==◌, cond, nat_le, List, [], ◌∷◌, length, Option, Some, None, option_map}
+use Rattle.definitions.specs.Limits.{most_record}
 use Rattle.definitions.specs.Numbers.{is_number}
 
 -- The bytes before the first TAB, and those behind it.
@@ -17,18 +18,22 @@ abbrev pub fields_pass : (List ℕ → List ℕ → Bool) → Option (List ℕ �
 fields_pass test None = false
 fields_pass test (Some p) = test p.0 p.1
 
+-- No more bytes than a record has.
+abbrev pub is_short : List ℕ → Bool
+is_short r = nat_le (length r) most_record
+
 -- Count accepts every record.
 abbrev pub is_count_record : List ℕ → Bool
-is_count_record r = true
+is_count_record r = is_short r
 
 -- Index accepts `doc` TAB `text`, where doc is a number.
 abbrev pub is_index_record : List ℕ → Bool
-is_index_record r = fields_pass (λ doc text. is_number doc) (split_at_tab r)
+is_index_record r = is_short r && fields_pass (λ doc text. is_number doc) (split_at_tab r)
 
 -- Latest accepts `key` TAB `value`, where the key is not empty.
 abbrev pub is_latest_record : List ℕ → Bool
-is_latest_record r = fields_pass (λ key value. has_bytes key) (split_at_tab r)
+is_latest_record r = is_short r && fields_pass (λ key value. has_bytes key) (split_at_tab r)
 
 -- Topk accepts `group` TAB `score` TAB `item`, where the group is not empty and the score is a number.
 abbrev pub is_topk_record : List ℕ → Bool
-is_topk_record r = fields_pass (λ group behind. has_bytes group && fields_pass (λ score item. is_number score) (split_at_tab behind)) (split_at_tab r)
+is_topk_record r = is_short r && fields_pass (λ group behind. has_bytes group && fields_pass (λ score item. is_number score) (split_at_tab behind)) (split_at_tab r)

@@ -4,3 +4,6 @@ pub mod Fields
 pub mod Forms
 pub mod Gained
 pub mod Laws
+pub mod Meanings
+pub mod Placed
+pub mod Rows

@@ -1,4 +1,4 @@
-//! The meter of the program.
+//! The meter that a program makes for itself.
 ghost use Rattle.std.specs.Prelude.{◌≡◌};
 
 use crate::{Counts, Meter};
@@ -21,9 +21,7 @@ impl Model for CountMeter {
 impl CountMeter {
     /// All counts are zero.
     pub fn new() -> CountMeter
-        ensures maps { result.maps ≡ 0 }
-        ensures merges { result.merges ≡ 0 }
-        ensures joins { result.joins ≡ 0 }
+        ensures { result ≡ record { maps = 0; merges = 0; joins = 0 } }
     {
         CountMeter {
             counts: Counts {
@@ -36,11 +34,7 @@ impl CountMeter {
 }
 
 impl Meter for CountMeter {
-    ghost maps = { λ m. m.maps };
-
-    ghost merges = { λ m. m.merges };
-
-    ghost joins = { λ m. m.joins };
+    ghost counts = { λ m. m };
 
     fn map(&mut self) {
         self.counts.maps = self.counts.maps.saturating_add(1);

@@ -1,23 +1,34 @@
-//! What mapping emits.
-ghost use Rattle.std.specs.Prelude.{◌≡◌, [], ◌∷◌, ◌++◌, OnOk, OnErr};
+//! The pairs that mapping emits, without an allocation for each.
+ghost use Rattle.std.specs.Prelude.{◌≡◌, ◌<◌, [], ◌∷◌, ◌++◌, OnOk, OnErr, Some, length, slice_get, take};
 ghost use Rattle.definitions.specs.Tables.{IsKey};
 
-use crate::Key;
 use std::alloc::{AllocError, Global};
 use std::marker::Model;
 
-/// Pairs of a key and a value, in the order in which they were put.
+/// A value, and where the bytes of its key stand.
+#[derive(Drop)]
+struct Placed<V> {
+    from: usize,
+    to: usize,
+    val: V,
+}
+
+/// Pairs of a key and a value, in the order in which they were put. The keys' bytes are held in one piece.
 #[derive(Drop)]
 pub struct Emit<V> {
-    pairs: Vec<(Key, V)>,
+    bytes: Vec<u8>,
+    places: Vec<Placed<V>>,
 }
 
 impl<V> Model for Emit<V> {
     ghost use Rattle.std.specs.Prelude.{List, ℕ};
+    ghost use Rattle.job_laws.specs.Placed.{placed_pairs, ArePlaced};
 
     ghost Value = { List (List ℕ × V) };
 
-    ghost view = { λ e. e.pairs.items };
+    ghost view = { λ e. placed_pairs e.bytes.items e.places.items };
+
+    ghost invariant = { λ e. ArePlaced e.bytes.items e.places.items };
 }
 
 impl<V: Drop> Emit<V> {
@@ -26,41 +37,49 @@ impl<V: Drop> Emit<V> {
         ensures { result ≡ [] }
     {
         Emit {
-            pairs: Vec::new(alloc),
+            bytes: Vec::new(alloc),
+            places: Vec::new(alloc),
         }
     }
 
     /// One more pair at the end. The key's bytes are copied.
-    pub fn put(&mut self, alloc: Global, key: &[u8], val: V) -> Result<(), AllocError>
+    pub fn put(&mut self, key: &[u8], val: V) -> Result<(), AllocError>
         requires { IsKey key.now }
         ensures ok { OnOk result (self.new ≡ self.old ++ (key.now, val) ∷ []) }
         ensures err { OnErr result (self.new ≡ self.old) }
     {
-        let key = Key::of(alloc, key)?;
-        self.pairs.push((key, val))?;
+        let from = self.bytes.len();
+        self.places.reserve(1)?;
+        self.bytes.extend_from_slice(key)?;
+        self.places.push_reserved(Placed {
+            from,
+            to: from + key.len(),
+            val,
+        });
         Ok(())
     }
 
-    /// All pairs of `more` at the end, or none of them.
-    pub fn append(&mut self, mut more: Emit<V>) -> Result<(), AllocError>
-        ensures ok { OnOk result (self.new ≡ self.old ++ more) }
-        ensures err { OnErr result (self.new ≡ self.old) }
+    /// How many pairs there are.
+    pub fn len(&self) -> usize
+        ensures { result ≡ length self.now }
     {
-        self.pairs.append(&mut more.pairs)
+        self.places.len()
     }
 
-    /// The pairs in their order.
-    pub fn pairs(&self) -> &[(Key, V)]
-        ensures { result.now ≡ self.now }
+    /// The key and the value of a pair, by its place.
+    pub fn pair(&self, i: usize) -> (&[u8], &V)
+        requires { i < length self.now }
+        ensures value { slice_get self.now i ≡ Some (result.0.now, result.1.now) }
+        ensures key { IsKey result.0.now }
     {
-        self.pairs.as_slice()
+        let place = &self.places[i];
+        (&self.bytes[place.from..place.to], &place.val)
     }
 
-    /// The pairs in their order, by value.
-    pub fn into_pairs(self) -> Vec<(Key, V)>
-        ensures { result.items ≡ self }
+    /// The first pairs alone.
+    pub fn truncate(&mut self, n: usize)
+        ensures { self.new ≡ take n self.old }
     {
-        let Emit { pairs } = self;
-        pairs
+        self.places.truncate(n);
     }
 }

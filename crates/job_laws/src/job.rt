@@ -1,17 +1,19 @@
-//! Jobs and their laws.
+//! What a job is to whoever runs it: its meaning, its calls, and the laws that it must prove.
 ghost use Rattle.std.specs.Prelude.{◌≡◌, ℕ, Bool, List, ◌++◌, IsTrue, ◌↔◌, IfOk, OnOk, OnErr};
 ghost use Rattle.definitions.specs.Outside.{GainsPrefix};
 ghost use Rattle.definitions.specs.Tables.{HasGoodValues, IsGoodJoin};
-ghost use Rattle.job_laws.specs.Counted.{risen};
+ghost use Rattle.job_laws.specs.Counted.{one_map, one_join};
 ghost use Rattle.job_laws.specs.Gained.{GainsPairs};
 
 use crate::{Emit, Key, Meter};
 use std::alloc::{AllocError, Global};
 
 /// A job. What it means is a function of the number that it is set to; what a value is encoded as is one of the type.
-pub trait Job: Send + Sync + Drop {
+/// `specs/Meanings.antt` has the meaning at one setting as one value. A job need not be `Send`: whoever starts threads
+/// asks for that.
+pub trait Job: Drop {
     /// What stands with a key.
-    type Val: Send + Sync + Drop;
+    type Val: Drop;
 
     type Meter: Meter;
 
@@ -57,9 +59,7 @@ pub trait Job: Send + Sync + Drop {
         ensures err { OnErr result (GainsPairs (emits (setting self.now) r.now) out.old out.new) }
 
         // Whatever it answers, one record was mapped.
-        ensures maps { Self.Meter.maps m.new ≡ risen (Self.Meter.maps m.old) }
-        ensures merges { Self.Meter.merges m.new ≡ Self.Meter.merges m.old }
-        ensures joins { Self.Meter.joins m.new ≡ Self.Meter.joins m.old };
+        ensures counted { Self.Meter.counts m.new ≡ one_map (Self.Meter.counts m.old) };
 
     /// The value that joins `a` with `b`, of which `a` came first.
     fn combine(
@@ -74,9 +74,7 @@ pub trait Job: Send + Sync + Drop {
         ensures ok { IfOk result (λ v. v ≡ joined (setting self.now) a.now b.now) }
 
         // Whatever it answers, two values were joined.
-        ensures maps { Self.Meter.maps m.new ≡ Self.Meter.maps m.old }
-        ensures merges { Self.Meter.merges m.new ≡ Self.Meter.merges m.old }
-        ensures joins { Self.Meter.joins m.new ≡ risen (Self.Meter.joins m.old) };
+        ensures counted { Self.Meter.counts m.new ≡ one_join (Self.Meter.counts m.old) };
 
     /// Appends the lines of the key `k` with its value `v` to `out`; where memory runs out, a prefix of them.
     fn line(

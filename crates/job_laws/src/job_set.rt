@@ -1,22 +1,22 @@
 //! The jobs that a program is handed.
 ghost use Rattle.std.specs.Prelude.{◌≡◌, ◌≤◌, ℕ, List};
-ghost use Rattle.definitions.specs.Records.{IsRecord};
 ghost use Rattle.job_laws.specs.Forms.{is_count_record, is_index_record, is_topk_record, is_latest_record};
 
 use crate::{Job, Meter, Swaps};
 
 /// The jobs that a program is handed, with one meter. Nothing is said of what they emit, join and write beyond the
-/// laws of [`crate::Job`] and [`Swaps`], so a program makes values by their calls alone. Its calls take no memory.
+/// laws of [`crate::Job`] and [`Swaps`], so a program makes values by their calls alone. Its calls take no memory. Jobs,
+/// values and meters may go to other threads, which no job has to allow by itself.
 pub trait JobSet {
-    type Meter: Meter;
+    type Meter: Meter + Send + Sync;
 
-    type Count: Swaps<Meter = Self::Meter>;
+    type Count: Swaps<Meter = Self::Meter, Val: Send + Sync> + Send + Sync;
 
-    type Index: Swaps<Meter = Self::Meter>;
+    type Index: Swaps<Meter = Self::Meter, Val: Send + Sync> + Send + Sync;
 
-    type TopK: Swaps<Meter = Self::Meter>;
+    type TopK: Swaps<Meter = Self::Meter, Val: Send + Sync> + Send + Sync;
 
-    type Latest: Job<Meter = Self::Meter>;
+    type Latest: Job<Meter = Self::Meter, Val: Send + Sync> + Send + Sync;
 
     /// The job `count`, of setting 0.
     fn count(&self) -> Self::Count
@@ -37,11 +37,11 @@ pub trait JobSet {
         ensures { Self.Latest.setting result ≡ 0 };
 
     // Each accepts exactly the records of its form.
-    ghost count_accepts: { (r : List ℕ) → IsRecord r → Self.Count.accepts 0 r ≡ is_count_record r };
+    ghost count_accepts: { (r : List ℕ) → Self.Count.accepts 0 r ≡ is_count_record r };
 
-    ghost index_accepts: { (r : List ℕ) → IsRecord r → Self.Index.accepts 0 r ≡ is_index_record r };
+    ghost index_accepts: { (r : List ℕ) → Self.Index.accepts 0 r ≡ is_index_record r };
 
-    ghost topk_accepts: { (k : ℕ) (r : List ℕ) → 1 ≤ k → k ≤ 1000 → IsRecord r → Self.TopK.accepts k r ≡ is_topk_record r };
+    ghost topk_accepts: { (k : ℕ) (r : List ℕ) → 1 ≤ k → k ≤ 1000 → Self.TopK.accepts k r ≡ is_topk_record r };
 
-    ghost latest_accepts: { (r : List ℕ) → IsRecord r → Self.Latest.accepts 0 r ≡ is_latest_record r };
+    ghost latest_accepts: { (r : List ℕ) → Self.Latest.accepts 0 r ≡ is_latest_record r };
 }

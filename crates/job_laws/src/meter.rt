@@ -1,6 +1,6 @@
-//! Counts of what was done.
-ghost use Rattle.std.specs.Prelude.{◌≡◌, ℕ};
-ghost use Rattle.job_laws.specs.Counted.{risen};
+//! How much was done: maps, merges and joins, counted call by call.
+ghost use Rattle.std.specs.Prelude.{◌≡◌};
+ghost use Rattle.job_laws.specs.Counted.{one_map, one_merge, one_join};
 
 /// How many records were mapped, how many tables merged and how many values joined. A count stays at 2^64 - 1.
 #[derive(Clone, Copy, Debug, PartialEq, Eq)]
@@ -11,34 +11,25 @@ pub struct Counts {
 }
 
 /// Counts calls. There is no call that makes one, so generic code counts on those that it is handed.
-pub trait Meter: Send + Sync + Drop {
-    ghost maps: { Self → ℕ };
+pub trait Meter: Drop {
+    ghost use Rattle.job_laws.specs.declared.meter.Counts.{Counts};
 
-    ghost merges: { Self → ℕ };
-
-    ghost joins: { Self → ℕ };
+    // The three counts.
+    ghost counts: { Self → Counts };
 
     /// Counts a record that is mapped.
     fn map(&mut self)
-        ensures maps { maps self.new ≡ risen (maps self.old) }
-        ensures merges { merges self.new ≡ merges self.old }
-        ensures joins { joins self.new ≡ joins self.old };
+        ensures { counts self.new ≡ one_map (counts self.old) };
 
     /// Counts two tables that are merged.
     fn merge(&mut self)
-        ensures maps { maps self.new ≡ maps self.old }
-        ensures merges { merges self.new ≡ risen (merges self.old) }
-        ensures joins { joins self.new ≡ joins self.old };
+        ensures { counts self.new ≡ one_merge (counts self.old) };
 
     /// Counts two values that are joined.
     fn join(&mut self)
-        ensures maps { maps self.new ≡ maps self.old }
-        ensures merges { merges self.new ≡ merges self.old }
-        ensures joins { joins self.new ≡ risen (joins self.old) };
+        ensures { counts self.new ≡ one_join (counts self.old) };
 
     /// All three counts.
     fn counts(&self) -> Counts
-        ensures maps { result.maps ≡ maps self.now }
-        ensures merges { result.merges ≡ merges self.now }
-        ensures joins { result.joins ≡ joins self.now };
+        ensures { result ≡ counts self.now };
 }

@@ -1,11 +1,22 @@
 //! Keys, emitted pairs and counts, as a caller meets them.
-ghost use Rattle.std.specs.Prelude.{length};
+ghost use Rattle.std.specs.Prelude.{◌≡◌, length, IfOk};
 
 use crate::{CountMeter, Counts, Emit, Key, Meter, MeterRow, be32_bytes, be64_bytes, tab_at};
+use std::alloc::{AllocError, Global};
 use std::cmp::Ordering;
 use std::test::Fail;
 
 fn cross<T: Send + Sync>(_value: &T) {}
+
+fn new_meters(alloc: Global) -> Result<Vec<CountMeter>, AllocError>
+    ensures { IfOk result (λ meters. length meters.items ≡ 16) }
+{
+    let mut meters = Vec::new(alloc);
+    'meters: for _ in 0..16 {
+        meters.push(CountMeter::new())?;
+    }
+    Ok(meters)
+}
 
 #[test]
 fn keys_are_shared_and_ordered(rt: HostRuntime) -> Result<(), Fail> {
@@ -32,18 +43,16 @@ fn a_key_may_have_65535_bytes(rt: HostRuntime) -> Result<(), Fail> {
 #[test]
 fn pairs_stand_in_their_order(rt: HostRuntime) -> Result<(), Fail> {
     let mut first = Emit::new(rt.alloc());
-    first.put(rt.alloc(), b"b", 1u64)?;
-    first.put(rt.alloc(), b"a", 2)?;
-    let mut more = Emit::new(rt.alloc());
-    more.put(rt.alloc(), b"b", 3)?;
-    cross(&more);
-    first.append(more)?;
-    assert_eq!(rt; first.pairs().len(), 3);
-    let pairs = first.into_pairs();
-    assert_eq!(rt; pairs.len(), 3);
-    assert_eq!(rt; pairs[0].0.bytes(), b"b".as_slice());
-    assert_eq!(rt; pairs[1].0.bytes(), b"a".as_slice());
-    assert_eq!(rt; pairs[2].1, 3);
+    first.put(b"b", 1u64)?;
+    first.put(b"a", 2)?;
+    first.put(b"b", 3)?;
+    cross(&first);
+    assert_eq!(rt; first.len(), 3);
+    let (key, val) = first.pair(1);
+    assert_eq!(rt; key, b"a".as_slice());
+    assert_eq!(rt; *val, 2);
+    first.truncate(1);
+    assert_eq!(rt; first.len(), 1);
     Ok(())
 }
 
@@ -72,10 +81,20 @@ fn each_call_raises_its_own_count(rt: HostRuntime) -> Result<(), Fail> {
             joins: 3
         }
     );
-    let row = MeterRow {
-        lanes: vec![in rt.alloc(); meter]?,
-        parts: Vec::new(rt.alloc()),
+    cross(&meter);
+    Ok(())
+}
+
+#[test]
+fn a_row_has_sixteen_lanes_and_parts(rt: HostRuntime) -> Result<(), Fail> {
+    let mut row = MeterRow {
+        lanes: new_meters(rt.alloc())?,
+        parts: new_meters(rt.alloc())?,
     };
+    row.lanes[15].map();
+    row.parts[0].merge();
+    assert_eq!(rt; row.lanes[15].counts().maps, 1);
+    assert_eq!(rt; row.parts[0].counts().merges, 1);
     cross(&row);
     Ok(())
 }

@@ -3,7 +3,7 @@ use Rattle.job_laws.proofs.laws.table_laws.Goals as goal
 
 pub returns : goal.returns
 returns g c =
-    let laws = g.met.J.Job g.world.𝓛 g.world.𝓜 g.world.𝓡 ((λ s x. x), (λ x. x), (λ x. x), λ x. x) in
+    let laws = g.met.J.Job in
     record {
       append = λ s xs ys gx gy. table-append (laws.join_laws s) xs ys gx gy;
       assoc = λ s t u w gt gu gw. merged_assoc (laws.join_laws s) t u w gt gu gw;
