@@ -3,6 +3,7 @@ use Rattle.std.specs.Prelude.{◌≡◌, ◌≢◌, ℕ, ◌==◌, ◌&&◌, nat
 use Rattle.std.specs.declared.option.Option.TheVariants.{Some, None}
 use Rattle.std.specs.Borrow.{Bor}
 use Rattle.definitions.specs.Numbers.{is_number, digits_value}
+use Rattle.record_text.specs.Names.{most_name}
 use Rattle.record_text.specs.declared.script_fault.Why.{Why}
 use Rattle.record_text.specs.declared.script_fault.Why.TheVariants.{Unknown, BadNumber, BadName}
 
@@ -37,9 +38,9 @@ three_numbers (f ∷ g ∷ h ∷ []) =
     if is_number f && is_number g && is_number h then Ok (digits_value f, digits_value g, digits_value h) else Err BadNumber
 three_numbers fields = Err Unknown
 
--- One field, a name: at most 255 bytes, and being a field of a line it has no space and no LF.
+-- One field, a name: no longer than a name may be, and being a field of a line it has no space and no LF.
 abbrev pub one_name : List (List ℕ) → Result (List ℕ) Why
-one_name (f ∷ []) = if nat_le (length f) 255 then Ok f else Err BadName
+one_name (f ∷ []) = if nat_le (length f) most_name then Ok f else Err BadName
 one_name fields = Err Unknown
 
 -- The faults of a command line's own form.

@@ -7,3 +7,4 @@ pub mod Names
 pub mod Spans
 pub mod Ahead
 pub mod Reader
+pub mod Shifts

@@ -3,6 +3,7 @@ use Rattle.std.specs.Prelude.{◌≡◌, ◌≢◌, ℕ, ◌+◌, ◌^◌, ◌<�
 use Rattle.std.specs.declared.option.Option.TheVariants.{Some, None}
 use Rattle.definitions.specs.Outside.{Told}
 use Rattle.definitions.specs.Records.{IsRecord}
+use Rattle.record_text.specs.Ahead.{most_piece}
 use Rattle.record_text.specs.Lines.{EndsLine, HasNoLine}
 use Rattle.record_text.specs.Table.{command_of}
 use Rattle.record_text.specs.Script.{Awaits, ACommand, Script, Done, Faulty, from_line, step, with_command, after_records}
@@ -138,7 +139,7 @@ pub record Took (lacks : List ℕ → Type 0) (before after : List ℕ) : Type 0
   pub first : List ℕ
   pub last : List ℕ
   pub bytes : after ≡ before ++ (first ++ last)
-  pub piece : length last ≤ 65536
+  pub piece : length last ≤ most_piece
   pub lacked : lacks (before ++ first)
 
 -- Where something was taken, the source had not ended, and what was held before the last piece lacked something.

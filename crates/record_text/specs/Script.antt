@@ -1,5 +1,6 @@
 -- The commands of a script, each with its line, and how the script ends.
-use Rattle.std.specs.Prelude.{ℕ, zero, suc, ◌+◌, Bool, ◌==◌, nat_le, if◌then◌else◌, List, [], ◌∷◌, ◌++◌, length, take}
+use Rattle.std.specs.Prelude.{ℕ, zero, suc, ◌+◌, Bool, ◌==◌, nat_le, nat_lt, if◌then◌else◌, List, [], ◌∷◌, ◌++◌, length, take}
+use Rattle.definitions.specs.Limits.{most_record, most_text}
 use Rattle.definitions.specs.Records.{text_of}
 use Rattle.record_text.specs.Lines.{pieces}
 use Rattle.record_text.specs.Table.{asked, command_of}
@@ -22,9 +23,9 @@ Script = List (Command × ℕ) × Ending
 abbrev pub with_command : Command × ℕ → Script → Script
 with_command c s = (c ∷ s.0, s.1)
 
--- The records of one command may have 268435456 bytes of text.
+-- The records of one command have no more text than they may.
 abbrev pub fits_command : List (List ℕ) → Bool
-fits_command records = nat_le (length (text_of records)) 268435456
+fits_command records = nat_le (length (text_of records)) most_text
 
 -- What comes next: a command line, or a record line. The command on line `at` still waits for so many others behind it.
 pub data Awaits : Type 0 where
@@ -54,12 +55,12 @@ finish (ARecord at head others got) = ([], Faulty at ShortInput)
 -- bytes, so that its first `most` bytes are all that count.
 abbrev pub walk : Bool → Awaits → ℕ → List (List ℕ) → List ℕ → Script
 walk full awaits num [] rest =
-    if nat_le 65536 (length rest) then ([], Faulty num LongLine)
+    if nat_lt most_record (length rest) then ([], Faulty num LongLine)
     else if full then ([], Faulty num LongScript)
     else if length rest == 0 then finish awaits
     else step awaits num rest finish
 walk full awaits num (line ∷ lines) rest =
-    if nat_le 65536 (length line) then ([], Faulty num LongLine)
+    if nat_lt most_record (length line) then ([], Faulty num LongLine)
     else step awaits num line (λ next. walk full next (num + 1) lines rest)
 
 -- The commands of these bytes, whose first line has the number `num`.

@@ -1,7 +1,8 @@
-//! Bytes that were taken from a source and not used yet.
+//! The bytes that a reader took from its source and did not use yet. They are taken a piece at a time, and each is
+//! searched for a line's end once.
 ghost use Rattle.std.specs.Prelude.{◌≡◌, ◌≢◌, ◌<◌, ◌≤◌, ◌+◌, ◌++◌, ◌⊎◌, [], ℕ, length, take, drop, slice_index, IfOk, IfErr, OnOk, OnErr, IsErrOf};
 ghost use Rattle.definitions.specs.Outside.{Told, Rose};
-ghost use Rattle.record_text.specs.Ahead.{NoneBefore};
+ghost use Rattle.record_text.specs.Ahead.{NoneBefore, most_piece};
 ghost use Rattle.record_text.specs.declared.script_fault.Why.TheVariants.{Read, Mem};
 
 use crate::Why;
@@ -10,8 +11,8 @@ use slider_io::Source;
 use std::alloc::{AllocError, Global};
 use std::marker::Model;
 
-/// How many bytes are taken at once, at most.
-const PIECE: usize = 65536;
+/// The most bytes that are taken at once.
+const MOST_PIECE: usize = 65_536;
 
 /// Bytes that were taken from a source and not used yet, seen as a list of bytes. Each byte is searched for LF once.
 #[derive(Drop)]
@@ -33,7 +34,7 @@ impl Model for Ahead {
     ghost invariant = { λ a. IsHeld a.held.items a.at a.seen };
 }
 
-fn forget_front(bytes: &mut Vec<u8>, n: usize)
+fn forget_prefix(bytes: &mut Vec<u8>, n: usize)
     requires { n ≤ length bytes.old.items }
     ensures { bytes.new.items ≡ drop n bytes.old.items }
 {
@@ -44,12 +45,12 @@ fn forget_front(bytes: &mut Vec<u8>, n: usize)
 
 /// Room for a piece, which stays for later ones.
 fn make_piece(piece: &mut Vec<u8>) -> Result<(), AllocError>
-    ensures { OnOk result (length piece.new.items ≡ 65536) }
+    ensures { OnOk result (length piece.new.items ≡ most_piece) }
 {
-    if piece.len() == PIECE {
+    if piece.len() == MOST_PIECE {
         return Ok(());
     }
-    piece.resize(PIECE, 0)
+    piece.resize(MOST_PIECE, 0)
 }
 
 /// Takes once, `want` bytes at most. Room is made before, so that no byte is lost.
@@ -59,7 +60,7 @@ fn take_piece<S: Source>(held: &mut Vec<u8>, piece: &mut [u8], source: &mut S) -
     ensures count { IfOk result (λ n. length held.new.items ≡ length held.old.items + n) }
     ensures most { IfOk result (λ n. n ≤ length piece.old) }
     ensures end { IfOk result (λ n. n ≡ 0 → Told (S.left source.old) (S.left source.new) (λ l m. m ≡ [])) }
-    ensures front { take (length held.old.items) held.new.items ≡ held.old.items }
+    ensures prefix { take (length held.old.items) held.new.items ≡ held.old.items }
     ensures err { OnErr result (held.new.items ≡ held.old.items) }
     ensures later { S.faults source.old ≤ S.faults source.new }
     ensures failed { IsErrOf result Why.Read → Rose (S.faults source.old) (S.faults source.new) }
@@ -112,8 +113,8 @@ impl Ahead {
         ensures bytes { Told (S.left source.old) (S.left source.new) (λ l m. self.old ++ l ≡ self.new ++ m) }
         ensures count { IfOk result (λ n. length self.new ≡ length self.old + n) }
         ensures most { IfOk result (λ n. n ≤ most) }
-        ensures piece { IfOk result (λ n. n ≤ 65536) }
-        ensures front { take (length self.old) self.new ≡ self.old }
+        ensures piece { IfOk result (λ n. n ≤ most_piece) }
+        ensures prefix { take (length self.old) self.new ≡ self.old }
         ensures end { IfOk result (λ n. n ≡ 0 → Told (S.left source.old) (S.left source.new) (λ l m. m ≡ [])) }
         ensures err { OnErr result (self.new ≡ self.old) }
         ensures later { S.faults source.old ≤ S.faults source.new }
@@ -124,9 +125,9 @@ impl Ahead {
             Ok(()) => (),
             Err(_) => return Err(Why::Mem),
         }
-        forget_front(&mut self.held, self.at);
+        forget_prefix(&mut self.held, self.at);
         self.at = 0;
-        let want = most.min(PIECE as u64) as usize;
+        let want = most.min(MOST_PIECE as u64) as usize;
         take_piece(&mut self.held, &mut self.piece[..want], source)
     }
 
@@ -150,7 +151,7 @@ impl Ahead {
     }
 
     /// The first bytes.
-    pub fn front(&self, n: usize) -> &[u8]
+    pub fn prefix(&self, n: usize) -> &[u8]
         requires { n ≤ length self.now }
         ensures { result.now ≡ take n self.now }
     {

@@ -1,4 +1,4 @@
-//! Shared records.
+//! Records that several owners share, as the window and the lanes share those of a leaf, without a copy of their text.
 ghost use Rattle.std.specs.Prelude.{◌≡◌, IfOk};
 
 use crate::Records;

@@ -1,4 +1,4 @@
-//! The commands of a script.
+//! What a script can ask of a window, with the records that it brings.
 use crate::{Name, Records};
 
 /// One command of a script. Numbers are those of its line, and records those of its record lines.

@@ -1,13 +1,11 @@
-//! The fields of a command line.
+//! How a command line splits into fields at its spaces, and which numbers and names a row of the table reads from them.
 ghost use Rattle.std.specs.Prelude.{◌≡◌, All, IfErr, IfOk};
 ghost use Rattle.record_text.specs.Fields.{SplitsField, OneField, TwoFields, ThreeFields, IsField, IsForm, fields_behind, no_field, one_number, two_numbers, three_numbers, one_name};
 
+use crate::name::MOST_NAME;
 use crate::{Name, Why, parse_number};
 use memchr::memchr;
 use std::alloc::{AllocError, Global};
-
-/// How many bytes a name may have.
-const MOST_NAME: usize = 255;
 
 /// The first field of a line, and what stands behind its space where there is one.
 pub fn split_field(line: &[u8]) -> (&[u8], Option<&[u8]>)

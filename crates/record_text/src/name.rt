@@ -1,4 +1,4 @@
-//! Names of files.
+//! Names of the files of a document, which stand in byte order. A name is a field of a command line, so it has no space.
 ghost use Rattle.std.specs.Prelude.{◌≡◌, ◌↔◌, [], IsTrue, IfOk};
 ghost use Rattle.record_text.specs.Names.{IsName, name_cmp};
 
@@ -6,11 +6,14 @@ use std::alloc::{AllocError, Global};
 use std::cmp::Ordering;
 use std::marker::Model;
 
+/// The most bytes of a name.
+pub const MOST_NAME: usize = 255;
+
 /// Whether these bytes may be the name of a file: at most 255 bytes without a space and LF.
 pub fn is_name(bytes: &[u8]) -> bool
     ensures { IsTrue result ↔ IsName bytes.now }
 {
-    bytes.len() <= 255 && !bytes.contains(&b' ') && !bytes.contains(&b'\n')
+    bytes.len() <= MOST_NAME && !bytes.contains(&b' ') && !bytes.contains(&b'\n')
 }
 
 /// The name of a file, seen as its bytes: at most 255, without a space and LF. It may be empty.

@@ -1,4 +1,4 @@
-//! Numbers in scripts.
+//! Decimal numbers as scripts and answers write them: one way only for each value.
 ghost use Rattle.std.specs.Prelude.{◌≡◌, ◌≤◌, length, take, drop, decimal, IsTrue, SomeIff};
 ghost use Rattle.definitions.specs.Numbers.{is_number, digits_value};
 
@@ -24,7 +24,7 @@ pub fn parse_number(bytes: &[u8]) -> Option<u32>
     u32::try_from(value).ok()
 }
 
-/// Writes the decimal digits of a number at the front of a buffer, and answers how many there are. What stands behind
+/// Writes the decimal digits of a number at the start of a buffer, and answers how many there are. What stands behind
 /// them stays.
 pub fn print_number(n: u64, into: &mut [u8; 20]) -> usize
     ensures digits { take result into.new ≡ decimal n }

@@ -1,4 +1,4 @@
-//! Rising lists of places.
+//! Places of leaves in a list that strictly rise, so that none is there twice.
 ghost use Rattle.std.specs.Prelude.{◌≡◌, ◌<◌, ◌++◌, ◌∷◌, [], length, All, OnOk, OnErr, slice_index};
 ghost use Rattle.std.specs.List.Sorted.{IsStrictlyIncreasing};
 

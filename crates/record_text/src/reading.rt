@@ -1,9 +1,10 @@
-//! How far a reader is.
+//! How far a reader is in its script, and what a look at the bytes that it holds shows of the next line.
 ghost use Rattle.std.specs.Prelude.{◌≡◌};
 ghost use Rattle.record_text.specs.Reading.{FoundIs};
 
 use crate::ScriptFault;
 use crate::ahead::Ahead;
+use definitions::MOST_RECORD;
 
 /// What a look at the bytes ahead finds.
 #[derive(Clone, Copy, Debug, PartialEq, Eq)]
@@ -43,7 +44,7 @@ pub fn look(ahead: &mut Ahead, ended: bool, room: u64) -> Found
     ensures same { ahead.new ≡ ahead.old }
 {
     let end = ahead.line_end();
-    if end >= 65536 {
+    if end > MOST_RECORD {
         return Found::Long;
     }
     if end < ahead.len() {

@@ -1,7 +1,9 @@
-//! Lists of records.
+//! Lists of records, each held as one text, so that a command with many records takes two pieces of memory and is
+//! compared, copied and hashed as one.
 ghost use Rattle.std.specs.Prelude.{◌≡◌, ◌<◌, ◌≤◌, ◌++◌, ◌∷◌, [], ◌↔◌, length, IfOk, OnOk, OnErr, IsTrue, slice_index_or};
 ghost use Rattle.definitions.specs.Records.{IsRecord, AllRecords, text_of};
 
+use definitions::MOST_RECORD;
 use std::alloc::{AllocError, Global};
 use std::marker::Model;
 
@@ -9,7 +11,7 @@ use std::marker::Model;
 pub fn is_record(bytes: &[u8]) -> bool
     ensures { IsTrue result ↔ IsRecord bytes.now }
 {
-    bytes.len() <= 65535 && !bytes.contains(&b'\n')
+    bytes.len() <= MOST_RECORD && !bytes.contains(&b'\n')
 }
 
 /// Where the bytes of a record stand in a text.

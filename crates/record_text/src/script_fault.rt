@@ -1,4 +1,5 @@
-//! Why a script ends before its end.
+//! The faults that end a script at one of its lines: those of its own form, those of the window that it asks too much
+//! of, and those of the outside.
 
 /// Why a script ends before its end.
 #[derive(Clone, Copy, Debug, PartialEq, Eq)]
@@ -25,7 +26,7 @@ pub enum Why {
     WindowLarge,
     /// The source failed.
     Read,
-    /// Want of memory.
+    /// Out of memory.
     Mem,
 }
 

@@ -1,6 +1,8 @@
-//! Reads the commands of a script from a source.
+//! Reads a script command by command while its bytes come in: what was answered depends on the bytes taken alone, and no
+//! more are taken than the next answer needs.
 ghost use Rattle.std.specs.Prelude.{◌≡◌, ◌≢◌, ◌<◌, ◌≤◌, ◌+◌, ◌-◌, ◌^◌, ◌++◌, ◌⊎◌, [], ℕ, List, length, take, true, false, IfOk, IfErr, IsErrOf, IsSome, None, Some, Err};
 ghost use Rattle.definitions.specs.Outside.{Told, Rose};
+ghost use Rattle.record_text.specs.Ahead.{most_piece};
 ghost use Rattle.record_text.specs.Script.{commands};
 ghost use Rattle.record_text.specs.Reading.{Sound, Uses, LookIs, RecordsAre, CommandIs, NextLineIs, NextTold, NextTaken, LastIs, SamePlace, TakenWhere, Lacks, RecordsLack, NeedsMore, to_come};
 ghost use Rattle.record_text.specs.declared.script_fault.ScriptFault.{ScriptFault};
@@ -10,11 +12,9 @@ use crate::ahead::Ahead;
 use crate::reading::{Found, Reading, look};
 use crate::table::{Asked, ask};
 use crate::{Command, Records, ScriptFault, Why};
+use definitions::MOST_TEXT;
 use slider_io::Source;
 use std::alloc::Global;
-
-/// How many bytes of text the records of one command may have.
-const MOST_TEXT: u64 = 268_435_456;
 
 /// Reads the commands of a script from a source, one after the other. It takes from the source only while it holds no
 /// whole next line, and never after the source's end.
@@ -81,8 +81,8 @@ impl<'a, S: Source> ScriptReader<'a, S> {
         ensures on { IfOk result (λ _. self.new.reading.ended ≡ false → self.new.reading.room < self.old.reading.room) }
         ensures off { self.new.reading.ended ≡ true → self.new.reading.room ≡ self.old.reading.room }
         ensures place { SamePlace self.old.reading self.new.reading }
-        ensures front { IfOk result (λ _. take (length self.old.reading.ahead) self.new.reading.ahead ≡ self.old.reading.ahead) }
-        ensures piece { IfOk result (λ _. length self.new.reading.ahead ≤ length self.old.reading.ahead + 65536) }
+        ensures prefix { IfOk result (λ _. take (length self.old.reading.ahead) self.new.reading.ahead ≡ self.old.reading.ahead) }
+        ensures piece { IfOk result (λ _. length self.new.reading.ahead ≤ length self.old.reading.ahead + most_piece) }
         ensures later { S.faults self.old.source.now ≤ S.faults self.new.source.now }
         ensures failed { IsErrOf result Why.Read → Rose (S.faults self.old.source.now) (S.faults self.new.source.now) }
         ensures only { IfErr result (λ why. (why ≡ Read) ⊎ (why ≡ Mem)) }
@@ -187,7 +187,7 @@ impl<'a, S: Source> ScriptReader<'a, S> {
                 }),
                 Err(fault) => return Err(fault),
             };
-            match got.push(self.reading.ahead.front(len)) {
+            match got.push(self.reading.ahead.prefix(len)) {
                 Ok(()) => (),
                 Err(_) => return Err(ScriptFault {
                     line: self.reading.line + 1,
@@ -196,7 +196,7 @@ impl<'a, S: Source> ScriptReader<'a, S> {
             }
             self.reading.ahead.skip(skip);
             self.reading.line += 1;
-            if got.text_len() > MOST_TEXT {
+            if got.text_len() > MOST_TEXT as u64 {
                 return Err(ScriptFault {
                     line: at,
                     why: Why::WindowLarge,
@@ -229,7 +229,7 @@ impl<'a, S: Source> ScriptReader<'a, S> {
             Ok(None) => return Ok(None),
             Err(fault) => return Err(fault),
         };
-        let asked = match ask(alloc, self.reading.ahead.front(len)) {
+        let asked = match ask(alloc, self.reading.ahead.prefix(len)) {
             Ok(asked) => asked,
             Err(_) => return Err(ScriptFault {
                 line: self.reading.line + 1,

@@ -1,4 +1,4 @@
-//! The table of commands.
+//! What a command line asks for: its word chooses a row of the table, and its fields fill it.
 ghost use Rattle.std.specs.Prelude.{◌≡◌, ◌≢◌, All, IfOk};
 ghost use Rattle.record_text.specs.Fields.{IsField, fields_behind};
 ghost use Rattle.record_text.specs.Table.{RefusesForm, asked, command_of, row_of};

@@ -1,4 +1,4 @@
-//! The words of commands.
+//! Which bytes are command words: the one place where they are spelled.
 ghost use Rattle.std.specs.Prelude.{◌≡◌};
 ghost use Rattle.record_text.specs.Table.{word_of};
 

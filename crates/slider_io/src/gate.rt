@@ -1,4 +1,5 @@
-//! A gate that is passed before each task.
+//! What a thread passes before it works a task. A test can hold tasks back there, to show that two are under way
+//! together; no answer depends on it.
 ghost use Rattle.std.specs.Prelude.{ℕ};
 
 /// Is passed before each task is worked, by the thread that works it. It may hold a task back, and changes no answer.

@@ -1,4 +1,4 @@
-//! A sink into memory that takes bytes in pieces and fails when it is told to.
+//! A sink into memory, for tests: it takes so many bytes a call, and fails at the calls whose numbers it was given.
 ghost use Rattle.std.specs.Prelude.{◌≡◌, ◌<◌, ◌≤◌, ℕ, List, [], length, take, min, IfOk, IsErrOf};
 ghost use Rattle.std.specs.declared.option.Option.TheVariants.{Some};
 ghost use Rattle.definitions.specs.Outside.{Rose};

@@ -1,4 +1,5 @@
-//! A source over bytes in memory that gives them in pieces and fails when it is told to.
+//! A source over bytes in memory, for tests: it gives so many bytes a call, and fails at the calls whose numbers it was
+//! given.
 ghost use Rattle.std.specs.Prelude.{◌≡◌, ◌≤◌, ◌-◌, ℕ, List, [], length, drop, take, min, IfOk, OnErr, ◌↔◌, IsTrue};
 ghost use Rattle.std.specs.List.{list_any};
 ghost use Rattle.std.specs.declared.option.Option.TheVariants.{Some};
@@ -54,7 +55,7 @@ impl MemSource {
 fn give(bytes: &[u8], at: usize, into: &mut [u8]) -> usize
     requires { at ≤ length bytes.now }
     ensures count { result ≡ min (length into.old) (length bytes.now - at) }
-    ensures front { take result into.new ≡ take result (drop at bytes.now) }
+    ensures prefix { take result into.new ≡ take result (drop at bytes.now) }
 {
     let n = into.len().min(bytes.len() - at);
     into[..n].copy_from_slice(&bytes[at..at + n]);

@@ -1,4 +1,5 @@
-//! A source over a real reader.
+//! A source over a real reader, as standard input: the trusted edge where bytes come in. It tries an interrupted read
+//! again, and counts each other failure.
 ghost use Rattle.std.specs.Prelude.{◌≡◌, ◌≤◌, ℕ, List, length, IfOk, OnOk, OnErr};
 ghost use Rattle.std.specs.declared.option.Option.TheVariants.{None};
 ghost use Rattle.definitions.specs.Outside.{Rose};

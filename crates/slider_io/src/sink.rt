@@ -1,4 +1,5 @@
-//! Bytes that go out.
+//! What the program writes to. A sink counts its failures, so that a caller answers a failed write only if one was
+//! counted.
 ghost use Rattle.std.specs.Prelude.{◌≡◌, ◌<◌, ◌≤◌, ℕ, List, length, IfOk, IsErrOf};
 ghost use Rattle.std.specs.declared.option.Option.{Option};
 ghost use Rattle.definitions.specs.Outside.{Rose};
@@ -21,7 +22,7 @@ pub trait Sink {
     /// How often the sink has failed. The count stays once it stands at its type's end.
     ghost faults: { Self → ℕ };
 
-    /// Takes bytes from the front of a piece, and answers how many. None are taken of a piece that is not empty only
+    /// Takes a prefix of a piece, and answers how many bytes it has. None are taken of a piece that is not empty only
     /// where the count of faults rose. On `Err` the bytes taken are as before; `Failed` comes only where the count of
     /// faults rose.
     fn put(&mut self, piece: &[u8]) -> Result<usize, WriteFault>

@@ -1,4 +1,5 @@
-//! Bytes that come in.
+//! What the program reads from. A source counts its failures, so that a caller answers a failed read only if one was
+//! counted.
 ghost use Rattle.std.specs.Prelude.{◌≤◌, ℕ, List, length, IfOk, OnErr};
 ghost use Rattle.std.specs.declared.option.Option.{Option};
 ghost use Rattle.definitions.specs.Outside.{Rose};

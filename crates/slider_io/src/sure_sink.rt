@@ -1,4 +1,4 @@
-//! A sink into memory that never fails.
+//! A sink into memory that takes each piece whole. It never fails, and only lack of memory keeps it from taking one.
 ghost use Rattle.std.specs.Prelude.{◌≡◌, ◌≢◌, ◌<◌, ◌≤◌, ℕ, List, [], length, IfOk, IfErr, IsErrOf};
 ghost use Rattle.std.specs.declared.option.Option.TheVariants.{Some};
 ghost use Rattle.definitions.specs.Outside.{Rose};

@@ -1,4 +1,5 @@
-//! A sink into a real writer.
+//! A sink into a real writer, as standard output: the trusted edge where bytes go out. Each call flushes, so that what
+//! was taken has left the program; an interrupted call is tried again, and each other failure is counted.
 ghost use Rattle.std.specs.Prelude.{◌≡◌, ◌<◌, ◌≤◌, ℕ, List, length, IfOk, OnOk, OnErr, IfErr, IsErrOf};
 ghost use Rattle.std.specs.declared.option.Option.TheVariants.{None};
 ghost use Rattle.definitions.specs.Outside.{Rose};

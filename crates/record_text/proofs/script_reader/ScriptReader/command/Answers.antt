@@ -22,7 +22,7 @@ returns-in-Refuses-clause-reads g c =
     let len = c.in-Ok-Some.line.0 in let skip = c.in-Ok-Some.line.1 in
     let is = rw c.in-Ok-Some.field-0-is at e.line in
     let t : Reading = record s { ahead = c.skip.new.self; line = s.line + 1 } in
-    let asks = sym (c.in-Ok.ensures.asked ∙ ap asked c.front.ensures) ∙ c.in-Refuses.is in (
+    let asks = sym (c.in-Ok.ensures.asked ∙ ap asked c.prefix.ensures) ∙ c.in-Refuses.is in (
       take skip s.ahead,
       uses_then r s t lr ls ls [] (take skip s.ahead) e.used (uses_line s t ls len skip is c.skip.ensures refl refl),
       refuses r s t lr ls e.used e.place len skip is c.skip.ensures refl refl refl s.last c.in-Refuses.why asks (subst RefusesForm c.in-Refuses.is c.in-Ok.ensures.form),
@@ -36,7 +36,7 @@ returns-in-Ok-read_records-clause-reads g c =
     let len = c.in-Ok-Some.line.0 in let skip = c.in-Ok-Some.line.1 in
     let is = rw c.in-Ok-Some.field-0-is at e.line in
     let t : Reading = record s { ahead = c.skip.new.self; line = s.line + 1 } in
-    let asks = sym (c.in-Ok.ensures.asked ∙ ap asked c.front.ensures) ∙ c.in-Asks.is in
+    let asks = sym (c.in-Ok.ensures.asked ∙ ap asked c.prefix.ensures) ∙ c.in-Asks.is in
     let reads = c.in-Ok-read_records.ensures.reads in let used = reads.0 in
     let first = uses_then r s t lr ls ls [] (take skip s.ahead) e.used (uses_line s t ls len skip is c.skip.ensures refl refl) in
     let all = uses_then r t u lr ls lu (take skip s.ahead) used first reads.1 in (
@@ -54,7 +54,7 @@ returns-in-Err-read_records-clause-reads g c =
     let len = c.in-Ok-Some.line.0 in let skip = c.in-Ok-Some.line.1 in
     let is = rw c.in-Ok-Some.field-0-is at e.line in
     let t : Reading = record s { ahead = c.skip.new.self; line = s.line + 1 } in
-    let asks = sym (c.in-Ok.ensures.asked ∙ ap asked c.front.ensures) ∙ c.in-Asks.is in
+    let asks = sym (c.in-Ok.ensures.asked ∙ ap asked c.prefix.ensures) ∙ c.in-Asks.is in
     let reads = c.in-Err-read_records.ensures.reads in let used = reads.0 in
     let first = uses_then r s t lr ls ls [] (take skip s.ahead) e.used (uses_line s t ls len skip is c.skip.ensures refl refl) in (
       take skip s.ahead ++ used,
@@ -119,7 +119,7 @@ returns-in-Ok-read_records-clause-touch g c =
     let first = uses_then r s t lr ls ls [] (take skip s.ahead) e.used (uses_line s t ls len skip is c.skip.ensures refl refl) in
     let taken = taken_line (NeedsMore r.line) a b r s t [] skip refl c.skip.ensures (taken_command a b r s e.touch) in
     let u = c.read_records.new.self.reading in let d = c.read_records.new.self.source.now in let lu = g.S.Source.left d in
-    let asks = sym (c.in-Ok.ensures.asked ∙ ap asked c.front.ensures) ∙ c.in-Asks.is in
+    let asks = sym (c.in-Ok.ensures.asked ∙ ap asked c.prefix.ensures) ∙ c.in-Asks.is in
     let touch = c.in-Ok-read_records.ensures.touch in let used = touch.0 in
     let all = uses_then r t u lr ls lu (take skip s.ahead) used first touch.1 in (
       take skip s.ahead ++ used,
@@ -141,7 +141,7 @@ returns-in-Err-read_records-clause-touch g c =
     let first = uses_then r s t lr ls ls [] (take skip s.ahead) e.used (uses_line s t ls len skip is c.skip.ensures refl refl) in
     let taken = taken_line (NeedsMore r.line) a b r s t [] skip refl c.skip.ensures (taken_command a b r s e.touch) in
     let u = c.read_records.new.self.reading in let d = c.read_records.new.self.source.now in let lu = g.S.Source.left d in
-    let asks = sym (c.in-Ok.ensures.asked ∙ ap asked c.front.ensures) ∙ c.in-Asks.is in
+    let asks = sym (c.in-Ok.ensures.asked ∙ ap asked c.prefix.ensures) ∙ c.in-Asks.is in
     let touch = c.in-Err-read_records.ensures.touch in let used = touch.0 in
     let all = uses_then r t u lr ls lu (take skip s.ahead) used first touch.1 in (
       take skip s.ahead ++ used,

@@ -16,7 +16,7 @@ fills-preserved g c =
       same = e.same ∙ inv.same;
       used = uses_more r s t la lb ld [] inv.used (uses_filled s t lb ld more.0 (subst (λ (l : List ℕ). Told lb ld (λ x y. l ++ x ≡ t.ahead ++ y)) same e.bytes) count);
       sound = sound_filled s t lb ld more.0 inv.sound more.1 e.end e.off count e.place.line;
-      touch = line_more a b d r s t more.0 more.3 (subst (λ (l : List ℕ). take (length l) t.ahead ≡ l) same e.front) (subst (λ (l : List ℕ). length t.ahead ≤ length l + 65536) same e.piece) inv.touch;
+      touch = line_more a b d r s t more.0 more.3 (subst (λ (l : List ℕ). take (length l) t.ahead ≡ l) same e.prefix) (subst (λ (l : List ℕ). length t.ahead ≤ length l + 65536) same e.piece) inv.touch;
       place = search;
       later = omega (arith, inv.later, e.later);
     }
