@@ -1,17 +1,16 @@
 //! Why a window refuses a command.
 ghost use Rattle.std.specs.Prelude.{◌≡◌, ◌<◌, None, IfOk, IfSome, nat_lt, length};
+ghost use Rattle.definitions.specs.Limits.{most_text};
 ghost use Rattle.definitions.specs.Records.{text_of};
 ghost use Rattle.marker_chunker.specs.Cuts.{joined};
 ghost use Rattle.window_manager.specs.Windows.{asks_too_many, brought, first_refused, has_command, is_one_too_many, refusal_of, window_after, current_records};
 
 use crate::window::PlainWindow;
+use definitions::{MOST_BUCKETS, MOST_FILES, MOST_TEXT};
 use job_laws::Job;
 use record_text::{Command, Kind, Records};
 use std::alloc::{AllocError, Global};
 use window_manager::WindowFault;
-
-/// How many bytes of text a window may have.
-const MOST_TEXT: u64 = 268_435_456;
 
 /// Carries out a command, or answers why it is refused. A window that refused one is not used any further.
 pub(crate) fn plain_apply<J: Job>(
@@ -65,7 +64,7 @@ impl PlainWindow {
         ensures { IfOk result (λ many. many ≡ asks_too_many self.now c.now) }
     {
         match c {
-            Command::Bucket(_) => Ok(self.kind != Kind::Circle && self.leaves.len() >= 65536),
+            Command::Bucket(_) => Ok(self.kind != Kind::Circle && self.leaves.len() >= MOST_BUCKETS),
             Command::Drop(n) => Ok(self.leaves.len() < *n as usize),
             Command::Late { place, .. } => Ok(self.leaves.len() <= *place as usize),
             Command::Edit { at, del, ins } => {
@@ -86,7 +85,7 @@ impl PlainWindow {
         requires { old.now ≡ current_records self.now }
         ensures { result ≡ is_one_too_many self.now records.now }
     {
-        old.len() == 0 && records.len() > 0 && self.files.len() >= 65536
+        old.len() == 0 && records.len() > 0 && self.files.len() >= MOST_FILES
     }
 }
 
@@ -118,12 +117,12 @@ fn first_refused_record<J: Job>(job: &J, records: &Records) -> Option<usize>
 
 /// Whether leaves have more text than a window may have.
 fn is_large(leaves: &[Records]) -> bool
-    ensures { result ≡ nat_lt 268435456 (length (text_of (joined leaves.now))) }
+    ensures { result ≡ nat_lt most_text (length (text_of (joined leaves.now))) }
 {
     let mut size = 0;
     'leaves: for i in 0..leaves.len() {
         let more = leaves[i].text_len();
-        if more > MOST_TEXT - size {
+        if more > MOST_TEXT as u64 - size {
             return true;
         }
         size += more;

@@ -5,7 +5,7 @@ ghost use Rattle.record_text.specs.Script.{Ending, Done, Faulty, commands};
 ghost use Rattle.window_manager.specs.Windows.{empty_window};
 ghost use Rattle.slider_session.specs.Output.{ended_by, meaning, outcome_of};
 ghost use Rattle.slider_session.specs.Accepted.{HoldsAccepted};
-ghost use Rattle.slider_session.specs.Serving.{most_script};
+ghost use Rattle.definitions.specs.Limits.{most_script};
 ghost use Rattle.plain_program.specs.Plain.{ending_of_rest};
 ghost use Rattle.plain_program.specs.Walk.{Walks, walked_from};
 
@@ -13,9 +13,9 @@ use crate::answering::plain_piece;
 use crate::plain_commands;
 use crate::refusing::plain_apply;
 use crate::walk::PlainWalk;
+use definitions::MOST_SCRIPT;
 use job_laws::Job;
 use record_text::{Command, Kind, ScriptFault, Why};
-use slider_session::MOST_SCRIPT;
 use std::alloc::{AllocError, Global};
 use window_manager::WindowFault;
 

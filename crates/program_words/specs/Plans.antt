@@ -1,10 +1,11 @@
 -- What the words of the command line ask for, and what they are refused for.
 use Rattle.std.specs.Prelude.{◌≤◌, ℕ, Bool, true, false, ◌&&◌, if◌then◌else◌, nat_le, List, codes, bytes_eq, Option, option_map, Result, Ok, Err}
 use Rattle.std.specs.declared.option.Option.TheVariants.{Some, None}
+use Rattle.definitions.specs.Limits.{most_parts, most_places}
 use Rattle.definitions.specs.Numbers.{is_number, digits_value}
 use Rattle.record_text.specs.declared.kind.Kind.{Kind}
 use Rattle.record_text.specs.declared.kind.Kind.TheVariants as Kinds
-use Rattle.slider_session.specs.Settings.{AreWithin}
+use Rattle.run_settings.specs.Settings.{AreWithin}
 use Rattle.program_words.specs.declared.plan.JobName.{JobName}
 use Rattle.program_words.specs.declared.plan.JobName.TheVariants as jobs
 use Rattle.program_words.specs.declared.plan.TreeName.{TreeName}
@@ -78,8 +79,8 @@ plan_by v =
     demand fields.Job (given job_named v.job) (λ job.
     demand fields.K (number_or 10 1000 v.k) (λ k.
     demand fields.Tree (given tree_named v.tree) (λ tree.
-    demand fields.Buckets (number_or 24 4096 v.buckets) (λ places.
-    demand fields.Parts (number_or 1 16 v.parts) (λ parts.
+    demand fields.Buckets (number_or 24 most_places v.buckets) (λ places.
+    demand fields.Parts (number_or 1 most_parts v.parts) (λ parts.
     demand fields.Gen (seed_or_none v.generate) (λ seed.
     if joins_out_of_order job tree then Err fields.Tree
     else Ok (record {

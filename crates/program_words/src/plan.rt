@@ -2,8 +2,9 @@
 ghost use Rattle.std.specs.Prelude.{◌≡◌, ◌≤◌, IfOk, IfSome, option_map};
 ghost use Rattle.program_words.specs.Plans.{job_named, tree_named, number_within, number_or, seed_or_none, plan_by, values_as_text, kind_of, IsWithin};
 
+use definitions::{MOST_PARTS, MOST_PLACES};
 use record_text::{Kind, parse_number};
-use slider_session::Settings;
+use run_settings::Settings;
 
 /// The name of a job.
 #[derive(Clone, Copy, Debug, PartialEq, Eq)]
@@ -158,10 +159,10 @@ pub fn plan_by(values: Values<'_>) -> Result<Plan, Field>
     let Some(tree) = tree_named(name) else {
         return Err(Field::Tree);
     };
-    let Some(places) = number_or(24, 4096, values.buckets) else {
+    let Some(places) = number_or(24, MOST_PLACES, values.buckets) else {
         return Err(Field::Buckets);
     };
-    let Some(parts) = number_or(1, 16, values.parts) else {
+    let Some(parts) = number_or(1, MOST_PARTS, values.parts) else {
         return Err(Field::Parts);
     };
     let Some(seed) = seed_or_none(values.generate) else {

@@ -3,7 +3,7 @@
 use crate::options::read_words;
 use crate::plan::{JobName, Plan, TreeName};
 use crate::usage::{WordsFault, line_of_usage};
-use slider_session::Settings;
+use run_settings::Settings;
 use std::alloc::{AllocError, Global};
 
 /// What the words ask for, or the line that they are refused with.

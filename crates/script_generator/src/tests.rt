@@ -2,7 +2,7 @@
 use crate::{Draws, generate};
 use program_words::{JobName, Plan, TreeName};
 use sha2::{Digest, Sha256};
-use slider_session::Settings;
+use run_settings::Settings;
 use std::alloc::{AllocError, Global};
 use std::test::Fail;
 

@@ -11,7 +11,7 @@ use Rattle.record_text.specs.Script.{Ending, Faulty}
 use Rattle.window_manager.specs.Windows.{WindowState, window_after, refusal_of}
 use Rattle.window_manager.specs.Slides.{Slid, slid_after}
 use Rattle.slider_session.specs.Output.{Meaning, Outcome, after_bytes, unless_refused, on_command}
-use Rattle.slider_session.specs.Calls.{Held, state_of, accepted_of, Changes, Answers, Steps, next_piece}
+use Rattle.slider_session.specs.Calls.{SessionView, state_of, accepted_of, Changes, AnswersRun, Steps, next_piece}
 use Rattle.slider_session.specs.declared.halt.Halt.{Halt}
 use Rattle.slider_session.specs.declared.halt.Halt.TheVariants as Halts
 
@@ -19,7 +19,7 @@ use Rattle.slider_session.specs.declared.halt.Halt.TheVariants as Halts
 abbrev pub Going : Type 0
 Going = ℕ → WindowState → Outcome
 
-module _ {V : Type 0} (j : Meaning V) (old new : Held) (c : Command) (line : ℕ) (before now : Option (List ℕ)) where
+module _ {V : Type 0} (j : Meaning V) (old new : SessionView) (c : Command) (line : ℕ) (before now : Option (List ℕ)) where
   -- a command was carried out: what was written, and how the script goes on
   pub record Goes : Type 0 where
     pub gain : List ℕ
@@ -63,7 +63,7 @@ one_more w (Edit at del ins) s = omega arith
 one_more w (Load records) s = omega arith
 one_more w Run s = omega arith
 
-module _ {V : Type 0} (j : Meaning V) (old new : Held) (line : ℕ) (before now : Option (List ℕ)) where
+module _ {V : Type 0} (j : Meaning V) (old new : SessionView) (line : ℕ) (before now : Option (List ℕ)) where
   -- the window's command, where `on_command` is the window's
   module _ (c : Command) (windows : (go : Going) → on_command j (old.runs + 1) (state_of old) c line go ≡ unless_refused (refusal_of j.accepts (state_of old) c) line (go (old.runs + 1) (window_after (state_of old) c))) where
     pub change_comes : (result : Result (Unit {0}) Halt) → Changes j.accepts old new c line result → now ≡ before → ComesTo j old new c line before now result
@@ -72,10 +72,10 @@ module _ {V : Type 0} (j : Meaning V) (old new : Held) (line : ℕ) (before now 
       written = unwritten before now same;
       goes = λ go. windows go
           ∙ ap (λ o. unless_refused o line (go (old.runs + 1) (window_after (state_of old) c))) a.0
-          ∙ (λ i. go (sym (ap (λ (h : Held). h.runs) a.2) i + 1) (sym a.1.window i));
-      runs = let same = ap (λ (h : Held). h.runs) a.2 in omega (arith, same);
+          ∙ (λ i. go (sym (ap (λ (h : SessionView). h.runs) a.2) i + 1) (sym a.1.window i));
+      runs = let same = ap (λ (h : SessionView). h.runs) a.2 in omega (arith, same);
       accepted = subst (λ (s : Slid). s.accepted ≤ accepted_of old + 1) (sym a.1.slid) (one_more (state_of old) c old.window.slid);
-      setting = ap (λ (h : Held). h.setting) a.2;
+      setting = ap (λ (h : SessionView). h.setting) a.2;
     }
     change_comes (Err (Halts.Script fault)) a same = record {
       ends = λ go. windows go
@@ -110,14 +110,14 @@ module _ {V : Type 0} (j : Meaning V) (old new : Held) (line : ℕ) (before now 
         );
       }
 
-  pub answer_comes : (result : Result (Unit {0}) Halt) → Answers j old new before now result → ComesTo j old new Run line before now result
+  pub answer_comes : (result : Result (Unit {0}) Halt) → AnswersRun j old new before now result → ComesTo j old new Run line before now result
   answer_comes (Ok done) a = record {
     gain = next_piece j old;
     written = a.1;
-    goes = λ go. ap (λ (h : Held). after_bytes (next_piece j old) (go (h.runs + 1) (state_of h))) (sym a.0);
-    runs = subst (λ (h : Held). h.runs ≤ old.runs + 1) (sym a.0) (omega arith);
-    accepted = subst (λ (h : Held). accepted_of h ≤ accepted_of old + 1) (sym a.0) (omega arith);
-    setting = ap (λ (h : Held). h.setting) a.0;
+    goes = λ go. ap (λ (h : SessionView). after_bytes (next_piece j old) (go (h.runs + 1) (state_of h))) (sym a.0);
+    runs = subst (λ (h : SessionView). h.runs ≤ old.runs + 1) (sym a.0) (omega arith);
+    accepted = subst (λ (h : SessionView). accepted_of h ≤ accepted_of old + 1) (sym a.0) (omega arith);
+    setting = ap (λ (h : SessionView). h.setting) a.0;
   }
   answer_comes (Err (Halts.Script fault)) a = absurd a
   answer_comes (Err Halts.Read) a = absurd a
@@ -141,7 +141,7 @@ not_run j i w (Load records) line go other = refl
 not_run j i w Run line go other = absurd (other refl)
 
 -- what each step comes to
-pub step_comes : {V : Type 0} (j : Meaning V) (old new : Held) (c : Command) (line : ℕ) (before now : Option (List ℕ)) (result : Result (Unit {0}) Halt) → Steps j old new c line before now result → ComesTo j old new c line before now result
+pub step_comes : {V : Type 0} (j : Meaning V) (old new : SessionView) (c : Command) (line : ℕ) (before now : Option (List ℕ)) (result : Result (Unit {0}) Halt) → Steps j old new c line before now result → ComesTo j old new c line before now result
 step_comes j old new (Bucket records) line before now result s = change_comes j old new line before now (Bucket records) (λ go. refl) result s.0 s.1
 step_comes j old new (Drop n) line before now result s = change_comes j old new line before now (Drop n) (λ go. refl) result s.0 s.1
 step_comes j old new (Late place more) line before now result s = change_comes j old new line before now (Late place more) (λ go. refl) result s.0 s.1

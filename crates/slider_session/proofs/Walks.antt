@@ -16,7 +16,7 @@ use Rattle.record_text.proofs.ScriptLaws.{commands-short}
 use Rattle.record_text.proofs.ReadLaws.{uses_then}
 use Rattle.window_manager.specs.Windows.{WindowState}
 use Rattle.slider_session.specs.Output.{Meaning, Outcome, after_bytes, on_command, outcome_from, outcome_of, output_of, ending_of}
-use Rattle.slider_session.specs.Calls.{Held, state_of}
+use Rattle.slider_session.specs.Calls.{SessionView, state_of}
 use Rattle.slider_session.specs.Serving.{Serves, Writes, AtFault, WritesPrefix, HaltIs}
 use Rattle.slider_session.specs.declared.halt.Halt.{Halt}
 use Rattle.slider_session.specs.declared.halt.Halt.TheVariants as Halts
@@ -41,7 +41,7 @@ module _ {V : Type 0} (j : Meaning V) where
 
   -- serving stands between two commands, from the window `w` on: `gain` was written, and `past` are the bytes used since the
   -- reader was made as `fresh`
-  pub record Stands (w : WindowState) (most : ℕ) (fresh : Reading) (h : Held) (r : Reading) (first left before now : Option (List ℕ)) : Type 0 where
+  pub record Stands (w : WindowState) (most : ℕ) (fresh : Reading) (h : SessionView) (r : Reading) (first left before now : Option (List ℕ)) : Type 0 where
     pub gain : List ℕ
     pub past : List ℕ
     pub written : Told before now (λ old new. new ≡ old ++ gain)
@@ -61,9 +61,9 @@ not_before : (a b : Bool) → (a ≡ true → b ≡ true) → b ≡ false → a 
 not_before true b grows is = sym (grows refl) ∙ is
 not_before false b grows is = refl
 
-module _ {V : Type 0} (j : Meaning V) (w : WindowState) (most : ℕ) (fresh : Reading) (h : Held) (r : Reading) (first left before now : Option (List ℕ)) (s : Stands j w most fresh h r first left before now) where
+module _ {V : Type 0} (j : Meaning V) (w : WindowState) (most : ℕ) (fresh : Reading) (h : SessionView) (r : Reading) (first left before now : Option (List ℕ)) (s : Stands j w most fresh h r first left before now) where
   -- a command was read and carried out
-  module _ (new : Held) (next : Reading) (c : Command) (later : Option (List ℕ)) (wrote : Option (List ℕ)) where
+  module _ (new : SessionView) (next : Reading) (c : Command) (later : Option (List ℕ)) (wrote : Option (List ℕ)) where
     pub goes_on : Told left later (λ l m. NextTold (to_come r l) (to_come next m) next.last (Ok (Some c))) → (used : List ℕ) × Uses r next left later used × NextTaken r next used (Ok (Some c)) → Goes j h new c next.last now wrote → Stands j w most fresh new next first later before wrote
     goes_on told took g = record {
       gain = s.gain ++ g.gain;
@@ -161,7 +161,7 @@ module _ {V : Type 0} (j : Meaning V) (w : WindowState) (most : ℕ) (fresh : Re
         nothing t is = ap (λ (cs : List (Command × ℕ)). (outcome_from j (h.runs + 1) (state_of h) cs t.1).0) is
 
   -- a command was read that the window refuses, or that was cut short
-  module _ (new : Held) (next : Reading) (c : Command) (later : Option (List ℕ)) (wrote : Option (List ℕ)) (told : Told left later (λ l m. NextTold (to_come r l) (to_come next m) next.last (Ok (Some c)))) where
+  module _ (new : SessionView) (next : Reading) (c : Command) (later : Option (List ℕ)) (wrote : Option (List ℕ)) (told : Told left later (λ l m. NextTold (to_come r l) (to_come next m) next.last (Ok (Some c)))) where
     reached : Told first later (λ script m. outcome_of j w (commands most script) ≡ after_bytes s.gain (on_command j (h.runs + 1) (state_of h) c next.last (λ i v. walk j i v (to_come next m))))
     reached = told_then first left later (λ script l. outcome_of j w (commands most script) ≡ after_bytes s.gain (walk j (h.runs + 1) (state_of h) (to_come r l))) (λ l m. NextTold (to_come r l) (to_come next m) next.last (Ok (Some c)))
         (λ script m. outcome_of j w (commands most script) ≡ after_bytes s.gain (on_command j (h.runs + 1) (state_of h) c next.last (λ i v. walk j i v (to_come next m))))
@@ -183,7 +183,7 @@ module _ {V : Type 0} (j : Meaning V) (w : WindowState) (most : ℕ) (fresh : Re
         s.written cut.written)
 
 -- serving begins
-module _ {V : Type 0} (j : Meaning V) (w : WindowState) (most : ℕ) (fresh : Reading) (h : Held) (left before : Option (List ℕ)) where
+module _ {V : Type 0} (j : Meaning V) (w : WindowState) (most : ℕ) (fresh : Reading) (h : SessionView) (left before : Option (List ℕ)) where
   pub begins : h.runs ≡ 0 → (state_of h) ≡ w → (fresh.line ≡ 0) → ((script : List ℕ) → to_come fresh script ≡ commands most script) → Uses fresh fresh left left [] → Stands j w most fresh h fresh left left before before
   unfolding outcome_of
   begins zero window line all none = record {
@@ -202,7 +202,7 @@ nothing_yet j w most left before =
     told_same left (λ script after. Told before before (GainsPrefix (output_of j w (commands most script)))) (λ script.
     told_same before (GainsPrefix (output_of j w (commands most script))) (λ x. ([], (output_of j w (commands most script), refl), sym (append-nil x))))
 
-module _ {V : Type 0} (j : Meaning V) (w : WindowState) (most : ℕ) (fresh : Reading) (h : Held) (r : Reading) (first left before now : Option (List ℕ)) (s : Stands j w most fresh h r first left before now) (next : Reading) (later : Option (List ℕ)) where
+module _ {V : Type 0} (j : Meaning V) (w : WindowState) (most : ℕ) (fresh : Reading) (h : SessionView) (r : Reading) (first left before now : Option (List ℕ)) (s : Stands j w most fresh h r first left before now) (next : Reading) (later : Option (List ℕ)) where
   -- the reader stopped with a fault
   pub at_stop : (fresh.ahead ≡ []) → (fresh.room ≡ most) → (fresh.ended ≡ false) → (fault : ScriptFault) (halt : Halt) → HaltIs fault halt → Told left later (λ l m. NextTold (to_come r l) (to_come next m) next.last (Err fault)) → (used : List ℕ) × Uses r next left later used × NextTaken r next used (Err fault) → Serves j w most first later before now (Err halt)
   at_stop none room open' fault (Halts.Script f) is told took =
@@ -212,7 +212,7 @@ module _ {V : Type 0} (j : Meaning V) (w : WindowState) (most : ℕ) (fresh : Re
   at_stop none room open' fault Halts.Mem is told took = at_front j w most fresh h r first left before now s later (told_with left later _ (λ l m. Unit {0}) told (λ x y a b p. tt))
 
   -- a step stopped
-  pub at_halt : (new : Held) (c : Command) (wrote : Option (List ℕ)) (halt : Halt) → Told left later (λ l m. NextTold (to_come r l) (to_come next m) next.last (Ok (Some c))) → ComesTo j h new c next.last now wrote (Err halt) → Serves j w most first later before wrote (Err halt)
+  pub at_halt : (new : SessionView) (c : Command) (wrote : Option (List ℕ)) (halt : Halt) → Told left later (λ l m. NextTold (to_come r l) (to_come next m) next.last (Ok (Some c))) → ComesTo j h new c next.last now wrote (Err halt) → Serves j w most first later before wrote (Err halt)
   at_halt new c wrote (Halts.Script fault) told comes = at_refusal j w most fresh h r first left before now s new next c later wrote told fault comes
   at_halt new c wrote Halts.Read told comes = absurd comes
   at_halt new c wrote Halts.Write told comes = at_cut j w most fresh h r first left before now s new next c later wrote told comes

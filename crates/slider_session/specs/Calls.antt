@@ -8,29 +8,29 @@ use Rattle.record_text.specs.Script.{Faulty}
 use Rattle.window_manager.specs.Windows.{WindowState, refusal_of}
 use Rattle.window_manager.specs.Views.{WindowView, IsDone, view_anew}
 use Rattle.window_manager.specs.declared.fault.WindowFault.{WindowFault}
-use Rattle.slider_session.specs.declared.settings.Settings.{Settings}
+use Rattle.run_settings.specs.declared.settings.Settings.{Settings}
 use Rattle.slider_session.specs.declared.halt.Halt.{Halt}
 use Rattle.slider_session.specs.declared.halt.Halt.TheVariants as Halts
 use Rattle.slider_session.specs.Output.{Meaning, ended_by, piece}
 
 -- What a session holds: its job's setting, its settings, how many runs it has answered, and its window.
-pub record Held : Type 0 where
+pub record SessionView : Type 0 where
   pub setting : ℕ
   pub settings : Settings
   pub runs : ℕ
   pub window : WindowView
 
 -- The window that a session holds.
-abbrev pub state_of : Held → WindowState
+abbrev pub state_of : SessionView → WindowState
 state_of h = h.window.window
 
 -- How many buckets it accepted.
-abbrev pub accepted_of : Held → ℕ
+abbrev pub accepted_of : SessionView → ℕ
 accepted_of h = h.window.slid.accepted
 
 -- A command of the window was carried out, or refused on its line; nothing else was touched, and want of memory comes
 -- only where nothing refuses it.
-abbrev pub Changes : (List ℕ → Bool) → Held → Held → Command → ℕ → Result (Unit {0}) Halt → Type 0
+abbrev pub Changes : (List ℕ → Bool) → SessionView → SessionView → Command → ℕ → Result (Unit {0}) Halt → Type 0
 Changes accepts old new c line (Ok done) = (refusal_of accepts (state_of old) c ≡ None) × IsDone old.window new.window c × (new ≡ record old { window = new.window })
 Changes accepts old new c line (Err (Halts.Script fault)) = (refused : WindowFault) × (refusal_of accepts (state_of old) c ≡ Some refused) × (ended_by line refused ≡ Faulty fault.line fault.why) × (new ≡ old)
 Changes accepts old new c line (Err Halts.Read) = ⊥
@@ -38,24 +38,24 @@ Changes accepts old new c line (Err Halts.Write) = ⊥
 Changes accepts old new c line (Err Halts.Mem) = (refusal_of accepts (state_of old) c ≡ None) × (new ≡ old)
 
 -- A run more was answered over the same window.
-abbrev pub RunStands : Held → Held → Type 0
+abbrev pub RunStands : SessionView → SessionView → Type 0
 RunStands old new = new ≡ record old { runs = old.runs + 1; window = view_anew old.window }
 
 module _ {V : Type 0} (j : Meaning V) where
   -- What the next run writes.
-  abbrev pub next_piece : Held → List ℕ
+  abbrev pub next_piece : SessionView → List ℕ
   next_piece h = piece j (h.runs + 1) (state_of h)
 
   -- A run was answered; where a write failed the run stands, and a prefix of its piece was written; where memory ran out
   -- it stands so too, or all is as before.
-  abbrev pub Answers : Held → Held → Option (List ℕ) → Option (List ℕ) → Result (Unit {0}) Halt → Type 0
-  Answers old new before now (Ok done) = RunStands old new × Told before now (λ bytes more. more ≡ bytes ++ next_piece old)
-  Answers old new before now (Err (Halts.Script fault)) = ⊥
-  Answers old new before now (Err Halts.Read) = ⊥
-  Answers old new before now (Err Halts.Write) = RunStands old new × Told before now (GainsPrefix (next_piece old))
-  Answers old new before now (Err Halts.Mem) = ((new ≡ old) × (now ≡ before)) ⊎ (RunStands old new × Told before now (GainsPrefix (next_piece old)))
+  abbrev pub AnswersRun : SessionView → SessionView → Option (List ℕ) → Option (List ℕ) → Result (Unit {0}) Halt → Type 0
+  AnswersRun old new before now (Ok done) = RunStands old new × Told before now (λ bytes more. more ≡ bytes ++ next_piece old)
+  AnswersRun old new before now (Err (Halts.Script fault)) = ⊥
+  AnswersRun old new before now (Err Halts.Read) = ⊥
+  AnswersRun old new before now (Err Halts.Write) = RunStands old new × Told before now (GainsPrefix (next_piece old))
+  AnswersRun old new before now (Err Halts.Mem) = ((new ≡ old) × (now ≡ before)) ⊎ (RunStands old new × Told before now (GainsPrefix (next_piece old)))
 
   -- One command on a line: a run is answered, and any other command is the window's and writes nothing.
-  abbrev pub Steps : Held → Held → Command → ℕ → Option (List ℕ) → Option (List ℕ) → Result (Unit {0}) Halt → Type 0
-  Steps old new Run line before now result = Answers old new before now result
+  abbrev pub Steps : SessionView → SessionView → Command → ℕ → Option (List ℕ) → Option (List ℕ) → Result (Unit {0}) Halt → Type 0
+  Steps old new Run line before now result = AnswersRun old new before now result
   Steps old new c line before now result = Changes j.accepts old new c line result × (now ≡ before)

@@ -1,5 +1,4 @@
 pub mod Output
-pub mod Settings
 pub mod Accepted
 pub mod Calls
 pub mod Serving

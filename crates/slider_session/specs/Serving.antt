@@ -13,10 +13,6 @@ use Rattle.slider_session.specs.Output.{Meaning, ended_by, output_of, ending_of}
 use Rattle.slider_session.specs.declared.halt.Halt.{Halt}
 use Rattle.slider_session.specs.declared.halt.Halt.TheVariants as Halts
 
--- How many bytes a script may have at the most, and one more.
-abbrev pub most_script : ℕ
-most_script = 4294967296
-
 -- A fault of a script is neither of a device nor want of memory.
 abbrev pub IsOfScript : Result (Unit {0}) Halt → Type 0
 IsOfScript (Ok done) = Unit {0}

@@ -1,5 +1,6 @@
 //! What a run writes: each leaf of the window is mapped to a sheet for each part, and the sheets of a part are merged.
 ghost use Rattle.std.specs.Prelude.{◌≡◌, ◌≤◌, ◌++◌, ℕ, List, length, All, IfOk};
+ghost use Rattle.definitions.specs.Limits.{most_parts};
 ghost use Rattle.definitions.specs.Tables.{table_of, merged};
 ghost use Rattle.definitions.specs.Answer.{pairs_of};
 ghost use Rattle.sheets.specs.Parts.{AreSheets};
@@ -26,7 +27,7 @@ pub fn piece_of<J: Job>(
     meters: &mut MeterRow<J::Meter>,
 ) -> Result<Vec<u8>, AllocError>
     requires accepted { HoldsAccepted (J.accepts (J.setting job.now)) window.now.window }
-    requires parts { (1 ≤ parts) × (parts ≤ 16) }
+    requires parts { (1 ≤ parts) × (parts ≤ most_parts) }
     requires meters { FitsMeters meters.old.lanes.items meters.old.parts.items }
     ensures piece { IfOk result (λ bytes. bytes.items ≡ piece (meaning (J.accepts (J.setting job.now)) (J.emits (J.setting job.now)) (J.joined (J.setting job.now)) (J.text (J.setting job.now))) run window.now.window) }
     ensures meters { FitsMeters meters.new.lanes.items meters.new.parts.items }
@@ -58,7 +59,7 @@ fn roots_of_leaves<J: Job>(
     meters: &mut MeterRow<J::Meter>,
 ) -> Result<Vec<Sheet<J>>, AllocError>
     requires accepted { HoldsAccepted (J.accepts (J.setting job.now)) window.now.window }
-    requires parts { (1 ≤ parts) × (parts ≤ 16) }
+    requires parts { (1 ≤ parts) × (parts ≤ most_parts) }
     requires meters { FitsMeters meters.old.lanes.items meters.old.parts.items }
     ensures roots { IfOk result (λ roots. AreSheets (J.setting job.now) parts (table_of (J.joined (J.setting job.now)) (pairs_of (J.emits (J.setting job.now)) (present window.now.window))) roots.items) }
     ensures meters { FitsMeters meters.new.lanes.items meters.new.parts.items }
@@ -86,7 +87,7 @@ fn with_leaf<J: Job>(
     leaf: &Records,
     meters: &mut MeterRow<J::Meter>,
 ) -> Result<Vec<Sheet<J>>, AllocError>
-    requires parts { (1 ≤ parts) × (parts ≤ 16) }
+    requires parts { (1 ≤ parts) × (parts ≤ most_parts) }
     requires count { length roots.now ≡ parts }
     requires settings { All (λ s. s.setting ≡ J.setting job.now) roots.now }
     requires accepted { AllAccepted (J.accepts (J.setting job.now)) leaf.now }

@@ -6,9 +6,7 @@ mod answering;
 mod halt;
 mod serving;
 mod session;
-mod settings;
 
 pub use halt::Halt;
-pub use serving::{MOST_SCRIPT, serve};
+pub use serving::serve;
 pub use session::Session;
-pub use settings::Settings;

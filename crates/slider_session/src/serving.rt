@@ -3,18 +3,18 @@ ghost use Rattle.std.specs.Prelude.{◌≡◌, ◌<◌, ◌≤◌, ◌+◌, ◌-
 ghost use Rattle.definitions.specs.Outside.{Rose};
 ghost use Rattle.window_manager.specs.Windows.{empty_window};
 ghost use Rattle.slider_session.specs.Output.{meaning};
-ghost use Rattle.slider_session.specs.Settings.{AreWithin};
-ghost use Rattle.slider_session.specs.Serving.{most_script, Serves, IsOfScript, FitsMeters, HaltIs};
+ghost use Rattle.run_settings.specs.Settings.{AreWithin};
+ghost use Rattle.definitions.specs.Limits.{most_script};
+ghost use Rattle.slider_session.specs.Serving.{Serves, IsOfScript, FitsMeters, HaltIs};
 ghost use Rattle.slider_session.specs.Meters.{MetersRose};
 
-use crate::{Halt, Session, Settings};
+use crate::{Halt, Session};
+use definitions::MOST_SCRIPT;
 use job_laws::{Job, MeterRow};
 use record_text::{Kind, ScriptFault, ScriptReader, Why};
+use run_settings::Settings;
 use slider_io::{Sink, Source};
 use std::alloc::Global;
-
-/// How many bytes a script may have at the most, and one more.
-pub const MOST_SCRIPT: u64 = 4_294_967_296;
 
 /// The halt that a reader's fault is.
 fn halt_of(fault: ScriptFault) -> Halt

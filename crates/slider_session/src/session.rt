@@ -5,15 +5,16 @@ ghost use Rattle.record_text.specs.declared.command.Command.TheVariants.{Run};
 ghost use Rattle.window_manager.specs.Windows.{present};
 ghost use Rattle.window_manager.specs.Views.{no_leaves};
 ghost use Rattle.slider_session.specs.Output.{meaning};
-ghost use Rattle.slider_session.specs.Settings.{AreWithin};
-ghost use Rattle.slider_session.specs.Calls.{Held, state_of, accepted_of, Changes, Answers, Steps};
+ghost use Rattle.run_settings.specs.Settings.{AreWithin};
+ghost use Rattle.slider_session.specs.Calls.{SessionView, state_of, accepted_of, Changes, AnswersRun, Steps};
 ghost use Rattle.slider_session.specs.Serving.{IsOfScript, FitsMeters, RefusalIs};
 ghost use Rattle.slider_session.specs.Meters.{MetersRose, WorkedWithin};
 
 use crate::answering::piece_of;
-use crate::{Halt, Settings};
+use crate::Halt;
 use job_laws::{Job, MeterRow};
 use record_text::{Command, Kind, ScriptFault, Why};
+use run_settings::Settings;
 use slider_io::{Sink, WriteFault, put_all};
 use std::alloc::{AllocError, Global};
 use std::marker::Model;
@@ -31,10 +32,10 @@ pub struct Session<J: Job> {
 
 impl<J: Job> Model for Session<J> {
     ghost use Rattle.slider_session.specs.Accepted.{HoldsAccepted};
-    ghost use Rattle.slider_session.specs.Calls.{Held};
-    ghost use Rattle.slider_session.specs.Settings.{AreWithin};
+    ghost use Rattle.slider_session.specs.Calls.{SessionView};
+    ghost use Rattle.run_settings.specs.Settings.{AreWithin};
 
-    ghost Value = { Held };
+    ghost Value = { SessionView };
 
     ghost view = { λ s. record { setting = J.setting s.job; settings = s.settings; runs = s.runs; window = s.window } };
 
@@ -114,7 +115,7 @@ impl<J: Job> Session<J> {
     ) -> Result<(), Halt>
         requires runs { self.old.runs < 2 ^ 63 }
         requires meters { FitsMeters meters.old.lanes.items meters.old.parts.items }
-        ensures answers { Answers (meaning (J.accepts self.old.setting) (J.emits self.old.setting) (J.joined self.old.setting) (J.text self.old.setting)) self.old self.new (K.held out.old) (K.held out.new) result }
+        ensures answers { AnswersRun (meaning (J.accepts self.old.setting) (J.emits self.old.setting) (J.joined self.old.setting) (J.text self.old.setting)) self.old self.new (K.held out.old) (K.held out.new) result }
         ensures later { K.faults out.old ≤ K.faults out.new }
         ensures failed { IsErrOf result Halt.Write → Rose (K.faults out.old) (K.faults out.new) }
         ensures meters { FitsMeters meters.new.lanes.items meters.new.parts.items }

@@ -1,4 +1,5 @@
 use Rattle.std.proofs.Common.{◌<◌, ◌+◌, sym, arith}
+use Rattle.definitions.specs.Limits.{most_text}
 use Rattle.chunk_store.specs.Documents.{text_size}
 use Rattle.chunk_store.proofs.Texts.{chunks_take}
 use Rattle.window_manager.proofs.PlaceLaws.{nat_below}
@@ -10,8 +11,8 @@ returns-then-more-size c =
     let leaves = c.args.leaves.now in let i = c.leaves.i in
     let len = c.text_len-more.ensures in
     let next = size_front leaves i c.index-leaves-i.result c.leaves-test.true c.index-leaves-i.is in
-    let large : 268435456 < text_size leaves = omega (arith, c.leaves.invariant.sized, c.leaves.invariant.small, len, next, chunks_take (i + 1) leaves, c.if-more-size.true) in
-    sym (nat_below 268435456 (text_size leaves) large)
+    let large : most_text < text_size leaves = omega (arith, c.leaves.invariant.sized, c.leaves.invariant.small, len, next, chunks_take (i + 1) leaves, c.if-more-size.true) in
+    sym (nat_below most_text (text_size leaves) large)
 
 pub leaves-preserved : goal.leaves-preserved
 leaves-preserved c =

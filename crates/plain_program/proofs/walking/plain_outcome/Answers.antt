@@ -2,7 +2,7 @@ use Rattle.std.proofs.Common.{ap, ◌∙◌}
 use Rattle.record_text.specs.Script.{Done, Ending, commands}
 use Rattle.window_manager.specs.Windows.{empty_window}
 use Rattle.slider_session.specs.Output.{meaning}
-use Rattle.slider_session.specs.Serving.{most_script}
+use Rattle.definitions.specs.Limits.{most_script}
 use Rattle.plain_program.specs.Plain.{ending_of_rest}
 use Rattle.plain_program.proofs.ScriptSteps.{first_fault, whole_walk}
 use Rattle.plain_program.proofs.walking.plain_outcome.Goals as goal

@@ -4,8 +4,9 @@ use Rattle.record_text.specs.Reader.{reading_of, source_of}
 use Rattle.record_text.proofs.ReadLaws.{uses_none}
 use Rattle.window_manager.specs.Windows.{empty_window}
 use Rattle.slider_session.specs.Output.{meaning}
-use Rattle.slider_session.specs.Calls.{Held, state_of, accepted_of, Steps}
-use Rattle.slider_session.specs.Serving.{most_script, Serves}
+use Rattle.slider_session.specs.Calls.{SessionView, state_of, accepted_of, Steps}
+use Rattle.definitions.specs.Limits.{most_script}
+use Rattle.slider_session.specs.Serving.{Serves}
 use Rattle.slider_session.proofs.MeterLaws.{none_counted, then_counted}
 use Rattle.slider_session.proofs.Stepping.{step_comes}
 use Rattle.slider_session.proofs.Walks.{begins, nothing_yet, goes_on, at_end, at_stop, at_halt}
@@ -18,7 +19,7 @@ commands-init g c =
     let j = meaning (g.J.Job.accepts s) (g.J.Job.emits s) (g.J.Job.joined s) (g.J.Job.text s) in
     let n = c.new-reader.ensures in
     let left = g.S.Source.left (source_of c.new-reader.result).now in
-    let zero = ap (λ (h : Held). h.runs) c.in-Ok.ensures in
+    let zero = ap (λ (h : SessionView). h.runs) c.in-Ok.ensures in
     record {
       same = refl;
       sound = rw n.now n.sound;
@@ -77,7 +78,7 @@ returns-in-Ok-None-clause-serves g c =
     let ended : Serves j w most_script first rest before now (Ok tt) =
     at_end j w most_script (reading_of c.new-reader.result) c.commands.session (reading_of c.commands.reader) first (g.S.Source.left (source_of c.commands.reader).now) before now inv.stands rest (reading_of c.next.new.self)
     (rw c.in-Ok-None.field-0-is at e.told) ((rw c.in-Ok-None.field-0-is at e.taken) inv.clear) e.sound in
-    let at_job = subst (λ (k : ℕ). Serves (meaning (g.J.Job.accepts k) (g.J.Job.emits k) (g.J.Job.joined k) (g.J.Job.text k)) w most_script first rest before now (Ok tt)) (ap (λ (h : Held). h.setting) c.in-Ok.ensures) ended in
+    let at_job = subst (λ (k : ℕ). Serves (meaning (g.J.Job.accepts k) (g.J.Job.emits k) (g.J.Job.joined k) (g.J.Job.text k)) w most_script first rest before now (Ok tt)) (ap (λ (h : SessionView). h.setting) c.in-Ok.ensures) ended in
     let served = subst (λ (o : Option (List ℕ)). Serves (meaning (g.J.Job.accepts (g.J.Job.setting c.args.job)) (g.J.Job.emits (g.J.Job.setting c.args.job)) (g.J.Job.joined (g.J.Job.setting c.args.job)) (g.J.Job.text (g.J.Job.setting c.args.job))) w most_script o rest before now (Ok tt)) (ap g.S.Source.left c.new-reader.ensures.now) at_job in
     search (served, rules)
 
@@ -95,7 +96,7 @@ returns-in-Err-next-clause-serves g c =
     let stopped : Serves j w most_script first rest before now (Err c.halt_of.result) =
     at_stop j w most_script (reading_of c.new-reader.result) c.commands.session (reading_of c.commands.reader) first (g.S.Source.left (source_of c.commands.reader).now) before now inv.stands (reading_of c.next.new.self) rest
     n.ahead n.room n.open c.in-Err-next.fault c.halt_of.result c.halt_of.ensures c.in-Err-next.ensures.told (c.in-Err-next.ensures.taken inv.clear) in
-    let at_job = subst (λ (k : ℕ). Serves (meaning (g.J.Job.accepts k) (g.J.Job.emits k) (g.J.Job.joined k) (g.J.Job.text k)) w most_script first rest before now (Err c.halt_of.result)) (ap (λ (h : Held). h.setting) c.in-Ok.ensures) stopped in
+    let at_job = subst (λ (k : ℕ). Serves (meaning (g.J.Job.accepts k) (g.J.Job.emits k) (g.J.Job.joined k) (g.J.Job.text k)) w most_script first rest before now (Err c.halt_of.result)) (ap (λ (h : SessionView). h.setting) c.in-Ok.ensures) stopped in
     let served = subst (λ (o : Option (List ℕ)). Serves (meaning (g.J.Job.accepts (g.J.Job.setting c.args.job)) (g.J.Job.emits (g.J.Job.setting c.args.job)) (g.J.Job.joined (g.J.Job.setting c.args.job)) (g.J.Job.text (g.J.Job.setting c.args.job))) w most_script o rest before now (Err c.halt_of.result)) (ap g.S.Source.left n.now) at_job in
     search (served, rules)
 
@@ -116,7 +117,7 @@ returns-in-Err-step-clause-serves g c =
     let halted : Serves j w most_script first rest before wrote (Err halt) =
     at_halt j w most_script (reading_of c.new-reader.result) c.commands.session (reading_of c.commands.reader) first (g.S.Source.left (source_of c.commands.reader).now) before now inv.stands (reading_of c.next.new.self) rest
     c.step.new.self c.in-Ok-Some.command wrote halt (rw c.in-Ok-Some.field-0-is at c.in-Ok-Some.ensures.told) (step_comes j c.commands.session c.step.new.self c.in-Ok-Some.command (reading_of c.next.new.self).last now wrote (Err halt) steps) in
-    let at_job = subst (λ (k : ℕ). Serves (meaning (g.J.Job.accepts k) (g.J.Job.emits k) (g.J.Job.joined k) (g.J.Job.text k)) w most_script first rest before wrote (Err halt)) (ap (λ (h : Held). h.setting) c.in-Ok.ensures) halted in
+    let at_job = subst (λ (k : ℕ). Serves (meaning (g.J.Job.accepts k) (g.J.Job.emits k) (g.J.Job.joined k) (g.J.Job.text k)) w most_script first rest before wrote (Err halt)) (ap (λ (h : SessionView). h.setting) c.in-Ok.ensures) halted in
     let served = subst (λ (o : Option (List ℕ)). Serves (meaning (g.J.Job.accepts (g.J.Job.setting c.args.job)) (g.J.Job.emits (g.J.Job.setting c.args.job)) (g.J.Job.joined (g.J.Job.setting c.args.job)) (g.J.Job.text (g.J.Job.setting c.args.job))) w most_script o rest before wrote (Err halt)) (ap g.S.Source.left c.new-reader.ensures.now) at_job in
     search (served, rules)
 

@@ -4,7 +4,8 @@ use Rattle.record_text.specs.Reader.{reading_of, source_of}
 use Rattle.window_manager.specs.Windows.{empty_window}
 use Rattle.slider_session.specs.Output.{meaning}
 use Rattle.slider_session.specs.Calls.{accepted_of}
-use Rattle.slider_session.specs.Serving.{most_script, FitsMeters}
+use Rattle.definitions.specs.Limits.{most_script}
+use Rattle.slider_session.specs.Serving.{FitsMeters}
 use Rattle.slider_session.specs.Meters.{MetersRose}
 use Rattle.slider_session.proofs.Walks.{Stands}
 use Rattle.slider_session.proofs.serving.serve.Given as goal

@@ -1,19 +1,30 @@
-//! How a script is worked.
+//! The settings of a program, and whether they are within their limits.
 ghost use Rattle.std.specs.Prelude.{◌≡◌, ◌↔◌, IsTrue, false};
-ghost use Rattle.slider_session.specs.Settings.{AreWithin};
+ghost use Rattle.run_settings.specs.Settings.{AreWithin};
+
+use definitions::{MOST_PARTS, MOST_PLACES};
+
+/// The most tasks that may be worked at the same time.
+pub const MOST_WORKERS: u32 = 16;
+
+/// The most shards of a memo.
+pub const MOST_SHARDS: u32 = 8;
+
+/// The most runs for which a memo keeps what no run uses.
+pub const MOST_KEEP: u32 = 1_000;
 
 /// How a script is worked. What is written for it is the same whatever they say, but that a circle has `places`.
 #[derive(Clone, Copy, Debug, PartialEq, Eq)]
 pub struct Settings {
-    /// Into how many parts keys are divided, from 1 to 16.
+    /// Into how many parts keys are divided, from 1 to [`MOST_PARTS`].
     pub parts: u32,
-    /// How many tasks may be worked at the same time, from 1 to 16.
+    /// How many tasks may be worked at the same time, from 1 to [`MOST_WORKERS`].
     pub workers: u32,
-    /// How many shards a memo has, from 1 to 8.
+    /// How many shards a memo has, from 1 to [`MOST_SHARDS`].
     pub shards: u32,
-    /// For how many runs a memo keeps what no run uses, up to 1000.
+    /// For how many runs a memo keeps what no run uses, up to [`MOST_KEEP`].
     pub keep: u32,
-    /// How many buckets a circle has, from 1 to 4096.
+    /// How many buckets a circle has, from 1 to [`MOST_PLACES`].
     pub places: u32,
     /// Whether the work of each run is counted.
     pub work: bool,
@@ -29,14 +40,14 @@ impl Settings {
         ensures { IsTrue result ↔ AreWithin self.now }
     {
         self.parts >= 1
-            && self.parts <= 16
+            && self.parts <= MOST_PARTS
             && self.workers >= 1
-            && self.workers <= 16
+            && self.workers <= MOST_WORKERS
             && self.shards >= 1
-            && self.shards <= 8
-            && self.keep <= 1000
+            && self.shards <= MOST_SHARDS
+            && self.keep <= MOST_KEEP
             && self.places >= 1
-            && self.places <= 4096
+            && self.places <= MOST_PLACES
     }
 }
 
