@@ -16,7 +16,7 @@ import sys
 import time
 
 TOP = os.path.dirname(os.path.dirname(os.path.abspath(__file__)))
-PROGRAM = os.path.join(TOP, "crates", "slider_program", "out", "slider_program")
+PROGRAM = os.path.join(TOP, "crates", "slider_main", "out", "slider_main")
 WORDS = ["--job", "count", "--tree", "coalescing"]
 SIZES = [(200, 10), (2_000, 3), (20_000, 1)]
 PEER = "tr -cs A-Za-z0-9 '\\n' | sort | uniq -c"

@@ -14,7 +14,7 @@ import sys
 import time
 
 TOP = os.path.dirname(os.path.dirname(os.path.abspath(__file__)))
-PROGRAM = os.path.join(TOP, "crates", "slider_program", "out", "slider_program")
+PROGRAM = os.path.join(TOP, "crates", "slider_main", "out", "slider_main")
 TREES = ["rotating", "folding", "coalescing", "random"]
 ROWS = [(job, tree) for job in ["count", "index", "topk", "latest"] for tree in TREES if (job, tree) != ("latest", "rotating")]
 

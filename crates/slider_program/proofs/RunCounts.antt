@@ -9,7 +9,7 @@ use Rattle.record_text.specs.declared.command.Command.TheVariants.{Bucket, Drop,
 use Rattle.record_text.specs.declared.reading.Reading.{Reading}
 use Rattle.record_text.specs.Reading.{NextTold, to_come}
 use Rattle.record_text.specs.Script.{Script, commands}
-use Rattle.slider_session.specs.Serving.{most_script}
+use Rattle.definitions.specs.Limits.{most_script}
 use Rattle.slider_program.specs.Summaries.{runs_in, runs_of}
 
 -- a command is one run at the most
@@ -24,19 +24,19 @@ one_at_most (Load records) = omega arith
 one_at_most Run = omega arith
 
 -- so many runs were counted, and those to come are the rest
-abbrev pub Counts : ℕ → Reading → Option (List ℕ) → Option (List ℕ) → Type 0
-Counts runs r first left = Told first left (λ script rest. runs_of (commands most_script script) ≡ runs + runs_of (to_come r rest))
+abbrev pub RunsCounted : ℕ → Reading → Option (List ℕ) → Option (List ℕ) → Type 0
+RunsCounted runs r first left = Told first left (λ script rest. runs_of (commands most_script script) ≡ runs + runs_of (to_come r rest))
 
 -- before the first command
-pub none_counted : (r : Reading) (left : Option (List ℕ)) → ((script : List ℕ) → to_come r script ≡ commands most_script script) → Counts 0 r left left
+pub none_counted : (r : Reading) (left : Option (List ℕ)) → ((script : List ℕ) → to_come r script ≡ commands most_script script) → RunsCounted 0 r left left
 none_counted r left all = told_same left (λ script rest. runs_of (commands most_script script) ≡ 0 + runs_of (to_come r rest)) (λ script. ap runs_of (sym (all script)) ∙ none_before (runs_of (to_come r script)))
   where
     none_before : (n : ℕ) → n ≡ 0 + n
     none_before n = omega arith
 
-module _ (runs : ℕ) (r next : Reading) (first left later : Option (List ℕ)) (counts : Counts runs r first left) where
+module _ (runs : ℕ) (r next : Reading) (first left later : Option (List ℕ)) (counts : RunsCounted runs r first left) where
   -- a command was read
-  pub one_counted : (c : Command) → Told left later (λ l m. NextTold (to_come r l) (to_come next m) next.last (Ok (Some c))) → Counts (runs + runs_in c) next first later
+  pub one_counted : (c : Command) → Told left later (λ l m. NextTold (to_come r l) (to_come next m) next.last (Ok (Some c))) → RunsCounted (runs + runs_in c) next first later
   one_counted c told = told_then first left later (λ script l. runs_of (commands most_script script) ≡ runs + runs_of (to_come r l)) (λ l m. NextTold (to_come r l) (to_come next m) next.last (Ok (Some c)))
       (λ script m. runs_of (commands most_script script) ≡ (runs + runs_in c) + runs_of (to_come next m))
       (λ x y z p q. p ∙ ap (λ (t : Script). runs + runs_of t) q ∙ regrouped (runs_in c) (runs_of (to_come next z))) counts told

@@ -9,12 +9,13 @@ use Rattle.record_text.specs.Script.{Ending, commands}
 use Rattle.window_manager.specs.Windows.{WindowState}
 use Rattle.slider_session.specs.Output.{Meaning, output_of, ending_of}
 use Rattle.record_text.specs.Lines.{whole_lines}
-use Rattle.slider_session.specs.Serving.{Writes, Whole, AtFault, OfTaken, WritesPrefix, most_script}
+use Rattle.definitions.specs.Limits.{most_script}
+use Rattle.slider_session.specs.Serving.{Writes, Whole, AtFault, OfTaken, WritesPrefix}
 use Rattle.slider_program.specs.Words.{fault_line, end_line}
 use Rattle.program_words.specs.declared.plan.JobName.{JobName}
 use Rattle.program_words.specs.declared.plan.JobName.TheVariants.{Count, Index, Latest, TopK}
 use Rattle.slider_program.specs.Summaries.{summary_of}
-use Rattle.slider_program.specs.Program.{Seen, Tries, SumsUp, Answered, AnsweredBy, AnsweredFor}
+use Rattle.slider_program.specs.Program.{Seen, Tries, SumsUp, ScriptAnswered, AnsweredBy, AnsweredFor}
 
 -- a whole output is a prefix of itself
 front_of : {V : Type 0} (j : Meaning V) (w : WindowState) (old new : Seen) (script : List ℕ) → Writes j w most_script script old.held new.held → WritesPrefix j w most_script script old.held new.held
@@ -30,7 +31,7 @@ module _ {V : Type 0} (j : Meaning V) (w : WindowState) (old new : Seen) (status
   some_status (inl is) = inr (inl is)
   some_status (inr is) = inr (inr (inr (inr is)))
 
-  pub fault_answered : (status ≡ 3) ⊎ (status ≡ 6) → (status ≡ 3 → Tries (fault_line line why) old.said new.said old.err_faults new.err_faults) → Told old.said new.said (GainsPrefix (fault_line line why)) → Answered j w old new status
+  pub fault_answered : (status ≡ 3) ⊎ (status ≡ 6) → (status ≡ 3 → Tries (fault_line line why) old.said new.said old.err_faults new.err_faults) → Told old.said new.said (GainsPrefix (fault_line line why)) → ScriptAnswered j w old new status
   fault_answered known tried prefix = record {
     done = λ e. neither 0 (λ h. cc) (λ h. cc) known e;
     fault = λ e. (line, why, served, tried e);
@@ -59,7 +60,7 @@ module _ {V : Type 0} (j : Meaning V) (w : WindowState) (old new : Seen) (quiet 
         subst (λ (o : Option (List ℕ)). Told old.said o (GainsPrefix (end_line (ending_of j w (commands most_script script))))) (sym quiet)
         (told_same old.said (GainsPrefix (end_line (ending_of j w (commands most_script script)))) (λ z. ([], (end_line (ending_of j w (commands most_script script)), refl), sym (append-nil z)))))
 
-    pub write_answered : Rose old.out_faults new.out_faults → Answered j w old new 5
+    pub write_answered : Rose old.out_faults new.out_faults → ScriptAnswered j w old new 5
     write_answered rose = record {
       done = λ e. cc;
       fault = λ e. cc;
@@ -70,7 +71,7 @@ module _ {V : Type 0} (j : Meaning V) (w : WindowState) (old new : Seen) (quiet 
       known = inr (inr (inr (inl refl)));
     }
 
-    pub memory_answered : Answered j w old new 6
+    pub memory_answered : ScriptAnswered j w old new 6
     memory_answered = record {
       done = λ e. cc;
       fault = λ e. cc;
@@ -81,7 +82,7 @@ module _ {V : Type 0} (j : Meaning V) (w : WindowState) (old new : Seen) (quiet 
       known = inr (inr (inr (inr refl)));
     }
 
-  pub done_answered : Told old.left new.left (λ script after. Whole j w most_script script after old.held new.held) → Answered j w old new 0
+  pub done_answered : Told old.left new.left (λ script after. Whole j w most_script script after old.held new.held) → ScriptAnswered j w old new 0
   done_answered served = record {
     done = λ e. (served, quiet);
     fault = λ e. cc;
@@ -92,7 +93,7 @@ module _ {V : Type 0} (j : Meaning V) (w : WindowState) (old new : Seen) (quiet 
     known = inl refl;
   }
 
-  pub read_answered : Rose old.source_faults new.source_faults → Told old.left new.left (λ script after. OfTaken j w most_script script after old.held new.held) → Answered j w old new 4
+  pub read_answered : Rose old.source_faults new.source_faults → Told old.left new.left (λ script after. OfTaken j w most_script script after old.held new.held) → ScriptAnswered j w old new 4
   read_answered rose served = record {
     done = λ e. cc;
     fault = λ e. cc;
@@ -104,7 +105,7 @@ module _ {V : Type 0} (j : Meaning V) (w : WindowState) (old new : Seen) (quiet 
   }
 
 -- want of memory before anything was touched
-untouched_answered : {V : Type 0} (j : Meaning V) (w : WindowState) (old : Seen) → Answered j w old old 6
+untouched_answered : {V : Type 0} (j : Meaning V) (w : WindowState) (old : Seen) → ScriptAnswered j w old old 6
 untouched_answered j w old = memory_answered j w old old refl (told_same old.left (λ script after. WritesPrefix j w most_script script old.held old.held) (λ script.
     told_same old.held (GainsPrefix (output_of j w (commands most_script script))) (λ z. ([], (output_of j w (commands most_script script), refl), sym (append-nil z)))))
 

@@ -6,7 +6,8 @@ use Rattle.record_text.specs.declared.script_fault.Why.{Why}
 use Rattle.record_text.specs.Script.{commands}
 use Rattle.window_manager.specs.Windows.{WindowState, empty_window}
 use Rattle.slider_session.specs.Output.{Meaning, ending_of}
-use Rattle.slider_session.specs.Serving.{Whole, AtFault, OfTaken, WritesPrefix, most_script}
+use Rattle.definitions.specs.Limits.{most_script}
+use Rattle.slider_session.specs.Serving.{Whole, AtFault, OfTaken, WritesPrefix}
 use Rattle.program_words.specs.declared.plan.JobName.{JobName}
 use Rattle.program_words.specs.declared.plan.JobName.TheVariants.{Count, Index, Latest, TopK}
 use Rattle.program_words.specs.declared.plan.Plan.{Plan}
@@ -60,7 +61,7 @@ pub record SumsUp (line : List ℕ) (before now : Option (List ℕ)) (faults lat
 module _ {V : Type 0} (j : Meaning V) (w : WindowState) where
   -- The words were accepted: what each status says of the script that the source had left, of its output over the job and
   -- from the window on, and of `err`.
-  pub record Answered (old new : Seen) (status : ℕ) : Type 0 where
+  pub record ScriptAnswered (old new : Seen) (status : ℕ) : Type 0 where
     -- The source was read to its end, and all was written.
     pub done : status ≡ 0 → Told old.left new.left (λ script after. Whole j w most_script script after old.held new.held) × (new.said ≡ old.said)
     -- The script has a fault, and all before it was written.
@@ -83,7 +84,7 @@ module _ {V : Type 0} (j : Meaning V) (w : WindowState) where
 
   -- What was answered: the script that the source had left, or the summary of a generated one.
   abbrev pub AnsweredBy : Option (List ℕ) → Seen → Seen → ℕ → Type 0
-  AnsweredBy None old new status = Answered old new status
+  AnsweredBy None old new status = ScriptAnswered old new status
   AnsweredBy (Some script) old new status = Summed script old new status
 
 module _ {C I L T : Type 0} (w : WindowState) (script : Option (List ℕ)) (count : Meaning C) (index : Meaning I) (latest : Meaning L) (topk : ℕ → Meaning T) (k : ℕ) where

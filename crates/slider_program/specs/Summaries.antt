@@ -7,7 +7,7 @@ use Rattle.record_text.specs.declared.command.Command.TheVariants.{Run}
 use Rattle.record_text.specs.Script.{Script, commands}
 use Rattle.window_manager.specs.Windows.{WindowState}
 use Rattle.slider_session.specs.Output.{Meaning, output_of}
-use Rattle.slider_session.specs.Serving.{most_script}
+use Rattle.definitions.specs.Limits.{most_script}
 
 -- How many runs a command is.
 abbrev pub runs_in : Command → ℕ

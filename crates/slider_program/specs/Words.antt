@@ -5,23 +5,23 @@ use Rattle.record_text.specs.declared.script_fault.Why.TheVariants.{Unknown, Bad
 use Rattle.record_text.specs.Script.{Ending, Done, Faulty}
 
 -- The word of a fault; what ends a script is neither a failed read nor want of memory.
-abbrev pub word_of : Why → List ℕ
-word_of Unknown = codes "unknown"
-word_of BadNumber = codes "number"
-word_of BadName = codes "name"
-word_of ShortInput = codes "short"
-word_of LongLine = codes "long"
-word_of LongScript = codes "script"
-word_of NotHere = codes "nothere"
-word_of TooMany = codes "many"
-word_of BadRecord = codes "record"
-word_of WindowLarge = codes "window"
-word_of Read = codes "read"
-word_of Mem = codes "memory"
+abbrev pub fault_word : Why → List ℕ
+fault_word Unknown = codes "unknown"
+fault_word BadNumber = codes "number"
+fault_word BadName = codes "name"
+fault_word ShortInput = codes "short"
+fault_word LongLine = codes "long"
+fault_word LongScript = codes "script"
+fault_word NotHere = codes "nothere"
+fault_word TooMany = codes "many"
+fault_word BadRecord = codes "record"
+fault_word WindowLarge = codes "window"
+fault_word Read = codes "read"
+fault_word Mem = codes "memory"
 
 -- The line for a script's fault.
 abbrev pub fault_line : ℕ → Why → List ℕ
-fault_line line why = codes "fault " ++ decimal line ++ (codes " " ++ word_of why ++ codes "\n")
+fault_line line why = codes "fault " ++ decimal line ++ (codes " " ++ fault_word why ++ codes "\n")
 
 -- The line for the end of a script, if any.
 abbrev pub end_line : Ending → List ℕ

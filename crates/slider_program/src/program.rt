@@ -5,11 +5,11 @@ ghost use Rattle.window_manager.specs.Windows.{empty_window};
 ghost use Rattle.slider_session.specs.Output.{meaning};
 ghost use Rattle.slider_session.specs.Serving.{FitsMeters};
 ghost use Rattle.slider_session.specs.Meters.{MetersRose};
-ghost use Rattle.slider_session.specs.Settings.{AreWithin};
+ghost use Rattle.run_settings.specs.Settings.{AreWithin};
 ghost use Rattle.program_words.specs.Plans.{IsWithin, plan_of};
 ghost use Rattle.program_words.specs.Usages.{line_for};
 ghost use Rattle.slider_program.specs.Words.{fault_line};
-ghost use Rattle.slider_program.specs.Program.{Tries, Refused, SumsUp, Answered, AnsweredBy, AnsweredFor, first_window, generated_by};
+ghost use Rattle.slider_program.specs.Program.{Tries, Refused, SumsUp, ScriptAnswered, AnsweredBy, AnsweredFor, first_window, generated_by};
 ghost use Rattle.slider_program.specs.Summaries.{summary_of};
 ghost use Rattle.program_words.specs.declared.plan.Plan.{Plan};
 ghost use Rattle.program_words.specs.declared.plan.Field.{Field};
@@ -19,9 +19,10 @@ use crate::words::line_of_fault;
 use job_laws::{Job, JobSet, MeterRow};
 use program_words::{JobName, Plan, WordsFault, line_of_usage, read_words};
 use record_text::{Kind, ScriptFault};
+use run_settings::Settings;
 use script_generator::generate;
 use slider_io::{Gate, Sink, Source, WriteFault, put_all};
-use slider_session::{Halt, Settings, serve};
+use slider_session::{Halt, serve};
 use std::alloc::Global;
 use std::sync::Wait;
 use std::thread::Threads;
@@ -65,7 +66,7 @@ fn serve_script<J: Job, S: Source, K: Sink, E: Sink>(
 ) -> u8
     requires settings { AreWithin settings }
     requires meters { FitsMeters meters.old.lanes.items meters.old.parts.items }
-    ensures answered { Answered (meaning (J.accepts (J.setting job)) (J.emits (J.setting job)) (J.joined (J.setting job)) (J.text (J.setting job))) (empty_window kind settings.places)
+    ensures answered { ScriptAnswered (meaning (J.accepts (J.setting job)) (J.emits (J.setting job)) (J.joined (J.setting job)) (J.text (J.setting job))) (empty_window kind settings.places)
         record { left = S.left source.old; held = K.held out.old; said = E.held err.old; source_faults = S.faults source.old; out_faults = K.faults out.old; err_faults = E.faults err.old }
         record { left = S.left source.new; held = K.held out.new; said = E.held err.new; source_faults = S.faults source.new; out_faults = K.faults out.new; err_faults = E.faults err.new } result }
     ensures quiet { (result ≡ 3 → ⊥) → (result ≡ 6 → ⊥) → err.new ≡ err.old }

@@ -5,15 +5,18 @@ ghost use Rattle.record_text.specs.Script.{commands};
 ghost use Rattle.window_manager.specs.Windows.{empty_window};
 ghost use Rattle.slider_session.specs.Output.{meaning};
 ghost use Rattle.slider_session.specs.Meters.{MetersRose};
-ghost use Rattle.slider_session.specs.Serving.{FitsMeters, most_script};
-ghost use Rattle.slider_session.specs.Settings.{AreWithin};
+ghost use Rattle.definitions.specs.Limits.{most_script};
+ghost use Rattle.slider_session.specs.Serving.{FitsMeters};
+ghost use Rattle.run_settings.specs.Settings.{AreWithin};
 ghost use Rattle.slider_program.specs.Summaries.{runs_in, runs_of, summary_line, summary_of};
 
+use definitions::MOST_SCRIPT;
 use job_laws::{Job, MeterRow};
 use record_text::{Command, Kind, ScriptFault, ScriptReader};
+use run_settings::Settings;
 use sha2::{Digest, Sha256};
 use slider_io::{Source, SureSink, SureSource};
-use slider_session::{MOST_SCRIPT, Settings, serve};
+use slider_session::serve;
 use std::alloc::{AllocError, Global};
 
 /// How many runs a command is.

@@ -1,13 +1,13 @@
 //! The lines that stand on `err` where a script ends.
 ghost use Rattle.std.specs.Prelude.{◌≡◌, IfOk, string_bytes};
-ghost use Rattle.slider_program.specs.Words.{word_of, fault_line};
+ghost use Rattle.slider_program.specs.Words.{fault_word, fault_line};
 
 use record_text::{ScriptFault, Why};
 use std::alloc::{AllocError, Global};
 
 /// The word of a fault.
 fn word_of_fault(why: Why) -> &'static str
-    ensures { result.now ≡ word_of why }
+    ensures { result.now ≡ fault_word why }
 {
     match why {
         Why::Unknown => "unknown",

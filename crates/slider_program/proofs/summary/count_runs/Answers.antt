@@ -3,9 +3,9 @@ use Rattle.std.specs.Prelude.{Option}
 use Rattle.definitions.specs.Outside.{Told}
 use Rattle.record_text.specs.Reader.{reading_of, source_of}
 use Rattle.record_text.specs.Script.{commands}
-use Rattle.slider_session.specs.Serving.{most_script}
+use Rattle.definitions.specs.Limits.{most_script}
 use Rattle.slider_program.specs.Summaries.{runs_of}
-use Rattle.slider_program.proofs.RunCounts.{Counts, none_counted, one_counted, all_counted, one_at_most}
+use Rattle.slider_program.proofs.RunCounts.{RunsCounted, none_counted, one_counted, all_counted, one_at_most}
 use Rattle.slider_program.proofs.summary.count_runs.Goals as goal
 
 pub commands-init : goal.commands-init
@@ -31,7 +31,7 @@ commands-preserved g c =
       same = e.same ∙ inv.same;
       sound = e.sound;
       few = omega (arith, before, one, runs, moved);
-      counts = subst (λ (n : ℕ). Counts (c.commands.runs + n) (reading_of c.next.new.self) (g.S.Source.left (source_of c.new-reader.result).now) (g.S.Source.left (source_of c.next.new.self).now)) (sym runs)
+      counts = subst (λ (n : ℕ). RunsCounted (c.commands.runs + n) (reading_of c.next.new.self) (g.S.Source.left (source_of c.new-reader.result).now) (g.S.Source.left (source_of c.next.new.self).now)) (sym runs)
           (one_counted c.commands.runs (reading_of c.commands.reader) (reading_of c.next.new.self) (g.S.Source.left (source_of c.new-reader.result).now) (g.S.Source.left (source_of c.commands.reader).now) (g.S.Source.left (source_of c.next.new.self).now) inv.counts c.in-Ok-Some.command told);
     }
 

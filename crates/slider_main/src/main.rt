@@ -1,50 +1,13 @@
 //! The program `slider`: it reads a script on standard input and writes, at each run, the job's answer over the present
-//! window. Start at `program.rt`, whose `run_program` carries the promises; `main` makes the real devices and calls it.
+//! window. It makes the devices of the process and the meters, and hands them to [`slider_program::run_program`], which
+//! carries the promises.
 #![tactic(auto)]
 
-mod basic_jobs;
-#[cfg(test)]
-mod device_tests;
-#[cfg(test)]
-mod job_tests;
-#[cfg(test)]
-mod kind_tests;
-#[cfg(test)]
-mod plain_tests;
-mod program;
-#[cfg(test)]
-mod sheet_tests;
-mod summary;
-#[cfg(test)]
-mod tests;
-#[cfg(test)]
-mod window_tests;
-mod words;
-
-ghost use Rattle.std.specs.Prelude.{IfOk};
-ghost use Rattle.slider_session.specs.Serving.{FitsMeters};
-
-use crate::basic_jobs::BasicJobs;
-use crate::program::run_program;
-use job_laws::{CountMeter, MeterRow};
 use slider_io::{NoGate, ReaderSource, WriterSink, put_all};
-use std::alloc::{AllocError, Global};
+use slider_program::{BasicJobs, new_meters, run_program};
 use std::env;
 use std::io::ErrorKind;
 use std::process::ExitCode;
-
-/// The meters of the program: 16 for lanes and 16 for parts.
-fn new_meters(alloc: Global) -> Result<MeterRow<CountMeter>, AllocError>
-    ensures { IfOk result (λ row. FitsMeters row.lanes.items row.parts.items) }
-{
-    let mut lanes = Vec::new(alloc);
-    let mut parts = Vec::new(alloc);
-    'meters: while parts.len() < 16 {
-        lanes.push(CountMeter::new())?;
-        parts.push(CountMeter::new())?;
-    }
-    Ok(MeterRow { lanes, parts })
-}
 
 fn main(rt: HostRuntime) -> ExitCode {
     let alloc = rt.alloc();

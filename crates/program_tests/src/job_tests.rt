@@ -1,6 +1,6 @@
 //! The four jobs, through the program.
 
-use crate::tests::line_gives;
+use crate::calling::line_gives;
 use std::alloc::AllocError;
 
 #[test]

@@ -1,57 +1,9 @@
 //! The program beside the plain one, over scripts that are made from numbers.
 
-use crate::basic_jobs::BasicJobs;
-use crate::tests::{Ran, count_words, run};
-use crate::words::line_of_fault;
-use job_laws::{CountMeter, Job, JobSet};
-use plain_program::plain_outcome;
-use program_words::{JobName, read_words};
-use record_text::Kind;
+use crate::calling::{count_words, run, run_plainly};
 use std::alloc::{AllocError, Global};
 use std::sync::Wait;
 use std::thread::Threads;
-
-/// What the plain program writes for a script over a window, of which a circle has so many places, and says of its fault.
-pub fn serve_plainly<J: Job<Meter = CountMeter>>(
-    alloc: Global,
-    job: J,
-    kind: Kind,
-    places: u32,
-    script: &[u8],
-) -> Result<Ran, AllocError> {
-    let mut meter = CountMeter::new();
-    let script = Vec::from_slice(alloc, script)?;
-    let plain = plain_outcome(alloc, &job, kind, places, script, &mut meter)?;
-    let mut err = Vec::new(alloc);
-    if let Some(fault) = plain.fault {
-        err.extend_from_slice(line_of_fault(alloc, fault)?.as_bytes())?;
-    }
-    let status = if err.is_empty() { 0 } else { 3 };
-    Ok(Ran {
-        out: plain.written,
-        err,
-        status,
-    })
-}
-
-/// What the plain program does where the program is called with these words; nothing but status 2 where they are refused.
-pub fn run_plainly(alloc: Global, words: &[String], script: &[u8]) -> Result<Ran, AllocError> {
-    let Ok(plan) = read_words(alloc, words) else {
-        return Ok(Ran {
-            out: Vec::new(alloc),
-            err: Vec::new(alloc),
-            status: 2,
-        });
-    };
-    let kind = plan.tree.kind();
-    let places = plan.settings.places;
-    match plan.job {
-        JobName::Count => serve_plainly(alloc, BasicJobs.count(), kind, places, script),
-        JobName::Index => serve_plainly(alloc, BasicJobs.index(), kind, places, script),
-        JobName::TopK => serve_plainly(alloc, BasicJobs.topk(plan.k), kind, places, script),
-        JobName::Latest => serve_plainly(alloc, BasicJobs.latest(), kind, places, script),
-    }
-}
 
 /// The pieces that scripts are made of: whole commands, commands that take the next lines as records, and broken lines.
 const PIECES: [&[u8]; 16] = [

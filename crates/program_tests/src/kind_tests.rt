@@ -1,14 +1,14 @@
 //! Scripts served over each kind of window.
 ghost use Rattle.std.specs.Prelude.{◌≤◌};
+ghost use Rattle.definitions.specs.Limits.{most_places};
 
-use crate::basic_jobs::BasicJobs;
-use crate::new_meters;
-use crate::plain_tests::serve_plainly;
-use crate::words::line_of_fault;
+use crate::calling::serve_plainly;
 use job_laws::{CountMeter, Job, JobSet};
 use record_text::Kind;
+use run_settings::Settings;
 use slider_io::{SureSink, SureSource};
-use slider_session::{Halt, Settings, serve};
+use slider_program::{BasicJobs, line_of_fault, new_meters};
+use slider_session::{Halt, serve};
 use std::alloc::{AllocError, Global};
 
 /// What was written for a script, and the line of the fault that ended it, or nothing.
@@ -26,7 +26,7 @@ fn served_by_session<J: Job<Meter = CountMeter>>(
     places: u32,
     script: &[u8],
 ) -> Result<Served, AllocError>
-    requires { (1 ≤ places) × (places ≤ 4096) }
+    requires { (1 ≤ places) × (places ≤ most_places) }
 {
     let Ok(mut meters) = new_meters(alloc) else {
         return Err(AllocError);

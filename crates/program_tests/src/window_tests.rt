@@ -1,6 +1,6 @@
 //! Scripts over each kind of window, through the program.
 
-use crate::tests::{around, line_gives, run, words};
+use crate::calling::{around, line_gives, run, words};
 use std::alloc::{AllocError, Global};
 use std::sync::Wait;
 use std::thread::Threads;

@@ -1,10 +1,10 @@
 //! Sheets of the program's own jobs.
 ghost use Rattle.std.specs.Prelude.{◌≡◌, All, IsTrue};
 
-use crate::basic_jobs::BasicJobs;
 use job_laws::{CountMeter, Counts, Job, JobSet, Meter};
 use record_text::Records;
 use sheets::{Sheet, map_sheets, merge_sheets, same_sheet};
+use slider_program::BasicJobs;
 use std::alloc::{AllocError, Global};
 
 /// Whether a job accepts all records.

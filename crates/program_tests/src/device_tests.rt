@@ -1,10 +1,8 @@
 //! Devices that fail, and words that are refused before any device is touched.
 
-use crate::basic_jobs::BasicJobs;
-use crate::new_meters;
-use crate::program::run_program;
-use crate::tests::{Ran, count_words, words};
+use crate::calling::{Ran, count_words, words};
 use slider_io::{MemSink, MemSource, NoGate, Source, SureSink, SureSource};
+use slider_program::{BasicJobs, new_meters, run_program};
 use std::alloc::{AllocError, Global};
 use std::sync::Wait;
 use std::thread::Threads;
