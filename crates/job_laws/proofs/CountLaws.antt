@@ -1,5 +1,5 @@
 -- How counts rise: by nothing, by one call, and by one call after another.
-use Rattle.std.proofs.Common.{◌≡◌, ℕ, ◌+◌, ◌≤◌, ◌<◌, ◌-◌, ◌^◌, min, max, refl, sym, ap, subst, ◌∙◌, arith}
+use Rattle.std.proofs.Common.{◌≡◌, ℕ, ◌+◌, ◌≤◌, sym, subst, arith}
 use Rattle.job_laws.specs.declared.meter.Counts.{Counts}
 use Rattle.job_laws.specs.Counted.{risen, risen_by, one_map, one_merge, one_join, RoseWithin, RoseBy}
 use Rattle.job_laws.specs.Rows.{LaneRose, PartRose}

@@ -20,6 +20,16 @@ pub gains_unless_ok : {A E : Type 0} (r : Result A E) (all more old new : List �
 gains_unless_ok (Ok x) all more old new is = tt
 gains_unless_ok (Err e) all more old new is = subst (GainsPrefix all old) (sym is) (gains_nothing all old)
 
+-- a piece was gained before, and then a prefix of the next one
+pub gains_within : (before piece rest all old mid new : List ℕ) → all ≡ before ++ (piece ++ rest) → mid ≡ old ++ before → GainsPrefix piece mid new → GainsPrefix all old new
+gains_within before piece rest all old mid new is at g =
+    let all_is : all ≡ (before ++ g.0) ++ (g.1.0 ++ rest) =
+    is
+    ∙ ap (λ l. before ++ (l ++ rest)) g.1.1
+    ∙ ap (λ l. before ++ l) (append_assoc g.0 g.1.0 rest)
+    ∙ sym (append_assoc before g.0 (g.1.0 ++ rest)) in
+    (before ++ g.0, (g.1.0 ++ rest, all_is), g.2 ∙ ap (λ l. l ++ g.0) at ∙ append_assoc old before g.0)
+
 -- Of all pairs, the rest is still to be emitted.
 pub record Emitted {V : Type 0} (all old now rest : List (List ℕ × V)) : Type 0 where
   pub gain : List (List ℕ × V)
@@ -58,12 +68,4 @@ module _ {A : Type 0} (f : A → List ℕ) (v : List A) (i : ℕ) (d : A) (withi
 
   -- the pieces before one were gained, and a prefix of it
   pub gains_next : (old mid new : List ℕ) → mid ≡ old ++ flat_map f (take i v) → GainsPrefix (f (get_or v i d)) mid new → GainsPrefix (flat_map f v) old new
-  gains_next old mid new at g =
-      let before = flat_map f (take i v) in
-      let rest = flat_map f (drop (i + 1) v) in
-      let all : flat_map f v ≡ (before ++ g.0) ++ (g.1.0 ++ rest) =
-      all_pieces
-      ∙ ap (λ l. before ++ (l ++ rest)) g.1.1
-      ∙ ap (λ l. before ++ l) (append_assoc g.0 g.1.0 rest)
-      ∙ sym (append_assoc before g.0 (g.1.0 ++ rest)) in
-      (before ++ g.0, (g.1.0 ++ rest, all), g.2 ∙ ap (λ l. l ++ g.0) at ∙ append_assoc old before g.0)
+  gains_next old mid new at g = gains_within (flat_map f (take i v)) (f (get_or v i d)) (flat_map f (drop (i + 1) v)) (flat_map f v) old mid new all_pieces at g

@@ -12,7 +12,7 @@ fn new_meters(alloc: Global) -> Result<Vec<CountMeter>, AllocError>
     ensures { IfOk result (λ meters. length meters.items ≡ 16) }
 {
     let mut meters = Vec::new(alloc);
-    'meters: for _ in 0..16 {
+    'meters: while meters.len() < 16 {
         meters.push(CountMeter::new())?;
     }
     Ok(meters)
