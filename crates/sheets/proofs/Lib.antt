@@ -1,5 +1,7 @@
 pub mod MergeSteps
-pub mod GroupLaws
+mod PairLaws
+mod KeyGroups
+mod RoseLaws
 pub mod EntryLaws
 pub mod TieLaws
 pub mod MergedLaws

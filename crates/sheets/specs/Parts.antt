@@ -2,6 +2,8 @@
 use Rattle.std.specs.Prelude.{◌≡◌, ◌<◌, ℕ, ◌==◌, List, ◌≤◌, ◌++◌, filter, length, slice_index_or}
 use Rattle.partition.specs.Parts.{part_number}
 use Rattle.definitions.specs.Tables.{IsRising, HasGoodValues, table_of, merged}
+use Rattle.definitions.specs.Answer.{pairs_of}
+use Rattle.job_laws.specs.Meanings.{Meaning}
 use Rattle.sheets.specs.Sheets.{SheetOf}
 use Rattle.sheets.specs.United.{Apart, united}
 
@@ -18,6 +20,10 @@ pub record HasParts {V : Type 0} (parts : ℕ) (t : List (List ℕ × V)) (lists
 pub record AreSheets {V : Type 0} (setting parts : ℕ) (t : List (List ℕ × V)) (sheets : List (SheetOf V)) : Type 0 where
   pub count : length sheets ≡ parts
   pub each : (part : ℕ) (d : SheetOf V) → part < parts → slice_index_or sheets part d ≡ record { setting = setting; entries = in_part parts part t }
+
+-- The sheets of the table of the pairs that the records emit.
+abbrev pub IsMapped : {V : Type 0} → Meaning V → ℕ → ℕ → List (List ℕ) → List (SheetOf V) → Type 0
+IsMapped m setting parts records sheets = AreSheets setting parts (table_of m.joined (pairs_of m.emits records)) sheets
 
 module _ {V : Type 0} where
   -- A part of the table of two lists of pairs is the merge of the parts of their tables.

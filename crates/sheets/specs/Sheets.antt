@@ -1,5 +1,5 @@
--- What a sheet is, and how often joining counts.
-use Rattle.std.specs.Prelude.{ℕ, ◌+◌, ◌-◌, ◌^◌, min, max, List, [], ◌∷◌}
+-- What a sheet is, and how many keys tie where two tables are merged.
+use Rattle.std.specs.Prelude.{ℕ, ◌+◌, List, [], ◌∷◌}
 use Rattle.std.specs.FinMap.Entries.{by_order}
 use Rattle.definitions.specs.Tables.{key_cmp}
 
@@ -7,10 +7,6 @@ use Rattle.definitions.specs.Tables.{key_cmp}
 pub record SheetOf (V : Type 0) : Type 0 where
   pub setting : ℕ
   pub entries : List (List ℕ × V)
-
--- So many more, up to the last value of a count.
-abbrev pub risen_by : ℕ → ℕ → ℕ
-risen_by more n = max n (min (n + more) (2 ^ 64 - 1))
 
 -- How many keys tie where lists are merged from the front: the entry e and the rest after it, with the entries of u.
 abbrev pub ties_into : {V : Type 0} → List ℕ × V → (List (List ℕ × V) → ℕ) → List (List ℕ × V) → ℕ

@@ -3,6 +3,7 @@ ghost use Rattle.std.specs.Prelude.{◌≡◌, ◌++◌, [], length, map, All, O
 ghost use Rattle.definitions.specs.Answer.{lines_of};
 ghost use Rattle.definitions.specs.Outside.{GainsPrefix};
 ghost use Rattle.definitions.specs.Tables.{HasGoodValues, IsRising};
+ghost use Rattle.job_laws.specs.Meanings.{meaning_of};
 ghost use Rattle.sheets.specs.United.{Apart, BestIs, IsLeast, tables_of, united};
 
 use crate::Sheet;
@@ -21,9 +22,9 @@ pub fn answer_of<J: Job>(
 ) -> Result<u64, AllocError>
     requires settings { All (λ s. s.setting ≡ J.setting job.now) roots.now }
     requires apart { Apart (tables_of roots.now) }
-    ensures ok { OnOk result (out.new.items ≡ out.old.items ++ lines_of (J.text (J.setting job.now)) (united (tables_of roots.now))) }
+    ensures ok { OnOk result (out.new.items ≡ out.old.items ++ lines_of (meaning_of J.Job job.now).text (united (tables_of roots.now))) }
     ensures count { IfOk result (λ n. n ≡ length (united (tables_of roots.now))) }
-    ensures err { OnErr result (GainsPrefix (lines_of (J.text (J.setting job.now)) (united (tables_of roots.now))) out.old.items out.new.items) }
+    ensures err { OnErr result (GainsPrefix (lines_of (meaning_of J.Job job.now).text (united (tables_of roots.now))) out.old.items out.new.items) }
 {
     let mut rests = match rests_of(alloc, job, roots) {
         Ok(rests) => rests,

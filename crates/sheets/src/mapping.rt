@@ -1,10 +1,10 @@
-//! The sheets of records.
-ghost use Rattle.std.specs.Prelude.{◌≡◌, ◌≤◌, length, IsTrue, All, IfOk, OnOk};
+//! From records to the sheet of each part.
+ghost use Rattle.std.specs.Prelude.{◌≡◌, ◌≤◌, length, IfOk, OnOk};
 ghost use Rattle.definitions.specs.Answer.{pairs_of};
-ghost use Rattle.definitions.specs.Tables.{HasGoodValues, table_of};
-ghost use Rattle.job_laws.specs.Counted.{RoseWithin};
-ghost use Rattle.sheets.specs.Sheets.{risen_by};
-ghost use Rattle.sheets.specs.Parts.{AreSheets};
+ghost use Rattle.definitions.specs.Tables.{HasGoodValues};
+ghost use Rattle.job_laws.specs.Counted.{RoseBy, risen_by};
+ghost use Rattle.job_laws.specs.Meanings.{AllAccepted, meaning_of};
+ghost use Rattle.sheets.specs.Parts.{IsMapped};
 
 use crate::Sheet;
 use crate::grouping::grouped;
@@ -14,7 +14,7 @@ use record_text::Records;
 use std::alloc::{AllocError, Global};
 
 /// The sheet of each part: the entries of that part in the table of the pairs that the records emit, in emitted order.
-/// It is n log n in the pairs.
+/// It is one pass over the pairs, and a sort of the distinct keys.
 pub fn map_sheets<J: Job>(
     alloc: Global,
     job: &J,
@@ -22,18 +22,16 @@ pub fn map_sheets<J: Job>(
     parts: u32,
     m: &mut J::Meter,
 ) -> Result<Vec<Sheet<J>>, AllocError>
-    requires accepted { All (λ r. IsTrue (J.accepts (J.setting job.now) r)) records.now }
+    requires accepted { AllAccepted (meaning_of J.Job job.now) records.now }
     requires parts { (1 ≤ parts) × (parts ≤ 16) }
-    ensures ok { IfOk result (λ sheets. AreSheets (J.setting job.now) parts (table_of (J.joined (J.setting job.now)) (pairs_of (J.emits (J.setting job.now)) records.now)) sheets.items) }
-    ensures mapped { OnOk result (J.Meter.maps m.new ≡ risen_by (length records.now) (J.Meter.maps m.old)) }
+    ensures ok { IfOk result (λ sheets. IsMapped (meaning_of J.Job job.now) (J.setting job.now) parts records.now sheets.items) }
+    ensures mapped { OnOk result ((J.Meter.counts m.new).maps ≡ risen_by (length records.now) (J.Meter.counts m.old).maps) }
 
     // Whatever it answers:
-    ensures maps { RoseWithin (length records.now) (J.Meter.maps m.old) (J.Meter.maps m.new) }
-    ensures merges { J.Meter.merges m.new ≡ J.Meter.merges m.old }
-    ensures joins { RoseWithin (length (pairs_of (J.emits (J.setting job.now)) records.now)) (J.Meter.joins m.old) (J.Meter.joins m.new) }
+    ensures counted { RoseBy (length records.now) 0 (length (pairs_of (J.emits (J.setting job.now)) records.now)) (J.Meter.counts m.old) (J.Meter.counts m.new) }
 {
     let pairs = map_records(alloc, job, records, m)?;
-    let entries = grouped(alloc, job, pairs.pairs(), m)?;
+    let entries = grouped(alloc, job, &pairs, m)?;
     sheets_of_parts(alloc, job.setting(), entries, parts)
 }
 
@@ -43,12 +41,10 @@ fn map_records<J: Job>(
     records: &Records,
     m: &mut J::Meter,
 ) -> Result<Emit<J::Val>, AllocError>
-    requires { All (λ r. IsTrue (J.accepts (J.setting job.now) r)) records.now }
+    requires { AllAccepted (meaning_of J.Job job.now) records.now }
     ensures ok { IfOk result (λ pairs. pairs ≡ pairs_of (J.emits (J.setting job.now)) records.now) }
-    ensures mapped { OnOk result (J.Meter.maps m.new ≡ risen_by (length records.now) (J.Meter.maps m.old)) }
-    ensures maps { RoseWithin (length records.now) (J.Meter.maps m.old) (J.Meter.maps m.new) }
-    ensures merges { J.Meter.merges m.new ≡ J.Meter.merges m.old }
-    ensures joins { J.Meter.joins m.new ≡ J.Meter.joins m.old }
+    ensures mapped { OnOk result ((J.Meter.counts m.new).maps ≡ risen_by (length records.now) (J.Meter.counts m.old).maps) }
+    ensures counted { RoseBy (length records.now) 0 0 (J.Meter.counts m.old) (J.Meter.counts m.new) }
 {
     let mut pairs = Emit::new(alloc);
     'records: for i in 0..records.len() {

@@ -1,7 +1,7 @@
-//! The merge of two sheets.
+//! Two sheets of one setting as one.
 ghost use Rattle.std.specs.Prelude.{◌≡◌, ◌≤◌, ◌+◌, IfOk, OnOk};
 ghost use Rattle.definitions.specs.Tables.{IsRising, HasGoodValues, merged, merge_in_order, common_keys};
-ghost use Rattle.job_laws.specs.Counted.{risen, RoseWithin};
+ghost use Rattle.job_laws.specs.Counted.{risen, one_join, RoseBy};
 ghost use Rattle.sheets.specs.Sheets.{ties};
 
 use crate::{Sheet, Table};
@@ -24,9 +24,8 @@ pub fn merge_sheets<J: Job>(
     ensures entries { IfOk result (λ s. s.entries ≡ merged (J.joined (J.setting job.now)) a.now.entries b.now.entries) }
 
     // Whatever it answers, one merge was counted and at most the common keys were joined.
-    ensures maps { J.Meter.maps m.new ≡ J.Meter.maps m.old }
-    ensures merges { J.Meter.merges m.new ≡ risen (J.Meter.merges m.old) }
-    ensures joins { RoseWithin (common_keys a.now.entries b.now.entries) (J.Meter.joins m.old) (J.Meter.joins m.new) }
+    ensures merges { (J.Meter.counts m.new).merges ≡ risen (J.Meter.counts m.old).merges }
+    ensures counted { RoseBy 0 1 (common_keys a.now.entries b.now.entries) (J.Meter.counts m.old) (J.Meter.counts m.new) }
 {
     m.merge();
     let entries = merge_entries(
@@ -39,10 +38,7 @@ pub fn merge_sheets<J: Job>(
     Sheet::of(alloc, job.setting(), Table::of(entries))
 }
 
-pub(crate) fn copy_entry<J: Job>(
-    alloc: Global,
-    e: &(Key, J::Val),
-) -> Result<(Key, J::Val), AllocError>
+fn copy_entry<J: Job>(alloc: Global, e: &(Key, J::Val)) -> Result<(Key, J::Val), AllocError>
     ensures { IfOk result (λ c. c ≡ e.now) }
 {
     let key = e.0.share()?;
@@ -60,9 +56,7 @@ fn join_entries<J: Job>(
     requires left { J.good (J.setting job.now) e.now.1 }
     requires right { J.good (J.setting job.now) f.now.1 }
     ensures ok { IfOk result (λ c. c ≡ (e.now.0, J.joined (J.setting job.now) e.now.1 f.now.1)) }
-    ensures maps { J.Meter.maps m.new ≡ J.Meter.maps m.old }
-    ensures merges { J.Meter.merges m.new ≡ J.Meter.merges m.old }
-    ensures joins { RoseWithin 1 (J.Meter.joins m.old) (J.Meter.joins m.new) }
+    ensures counted { J.Meter.counts m.new ≡ one_join (J.Meter.counts m.old) }
 {
     let val = job.combine(alloc, &e.1, &f.1, m)?;
     let key = e.0.share()?;
@@ -70,7 +64,7 @@ fn join_entries<J: Job>(
 }
 
 /// Two rising lists of entries as one. Keys are shared and values copied; it is linear in the entries.
-pub(crate) fn merge_entries<J: Job>(
+fn merge_entries<J: Job>(
     alloc: Global,
     job: &J,
     a: &[(Key, J::Val)],
@@ -80,9 +74,7 @@ pub(crate) fn merge_entries<J: Job>(
     requires left { HasGoodValues (J.good (J.setting job.now)) a.now }
     requires right { HasGoodValues (J.good (J.setting job.now)) b.now }
     ensures ok { IfOk result (λ out. out.items ≡ merge_in_order (J.joined (J.setting job.now)) a.now b.now) }
-    ensures maps { J.Meter.maps m.new ≡ J.Meter.maps m.old }
-    ensures merges { J.Meter.merges m.new ≡ J.Meter.merges m.old }
-    ensures joins { RoseWithin (ties a.now b.now) (J.Meter.joins m.old) (J.Meter.joins m.new) }
+    ensures counted { RoseBy 0 0 (ties a.now b.now) (J.Meter.counts m.old) (J.Meter.counts m.new) }
 {
     let mut out = Vec::new(alloc);
     out.reserve(a.len().max(b.len()))?;

@@ -1,8 +1,9 @@
-//! Sheets.
+//! A shared table with its digest: what mapping and merging make, and what a memo keeps.
 ghost use Rattle.std.specs.Prelude.{◌≡◌, ◌++◌, [], ◌↔◌, ◌^◌, ◌<◌, IsTrue, IfOk, OnOk, OnErr};
 ghost use Rattle.definitions.specs.Answer.{lines_of};
 ghost use Rattle.definitions.specs.Outside.{GainsPrefix};
 ghost use Rattle.definitions.specs.Tables.{IsRising, HasGoodValues};
+ghost use Rattle.job_laws.specs.Meanings.{meaning_of};
 ghost use Rattle.sheets.specs.Digests.{table_digest};
 
 use crate::Table;
@@ -97,8 +98,8 @@ impl<J: Job> Sheet<J> {
     /// Appends the lines of the entries in order to `out`; where memory runs out, a prefix of them.
     pub fn write_lines(&self, alloc: Global, job: &J, out: &mut Vec<u8>) -> Result<(), AllocError>
         requires { self.now.setting ≡ J.setting job.now }
-        ensures ok { OnOk result (out.new.items ≡ out.old.items ++ lines_of (J.text (J.setting job.now)) self.now.entries) }
-        ensures err { OnErr result (GainsPrefix (lines_of (J.text (J.setting job.now)) self.now.entries) out.old.items out.new.items) }
+        ensures ok { OnOk result (out.new.items ≡ out.old.items ++ lines_of (meaning_of J.Job job.now).text self.now.entries) }
+        ensures err { OnErr result (GainsPrefix (lines_of (meaning_of J.Job job.now).text self.now.entries) out.old.items out.new.items) }
     {
         self.entries().write_lines(alloc, job, out)
     }

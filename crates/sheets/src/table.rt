@@ -1,8 +1,9 @@
-//! Tables of partial results.
+//! Partial results key by key, in byte order of the keys.
 ghost use Rattle.std.specs.Prelude.{◌≡◌, ◌<◌, ◌++◌, ◌↔◌, length, IsTrue, IfSome, OnOk, OnErr, slice_get};
 ghost use Rattle.definitions.specs.Answer.{lines_of};
 ghost use Rattle.definitions.specs.Outside.{GainsPrefix};
 ghost use Rattle.definitions.specs.Tables.{IsRising, HasGoodValues};
+ghost use Rattle.job_laws.specs.Meanings.{meaning_of};
 
 use job_laws::{Job, Key};
 use std::alloc::{AllocError, Global};
@@ -75,8 +76,8 @@ impl<J: Job> Table<J> {
         out: &mut Vec<u8>,
     ) -> Result<(), AllocError>
         requires { HasGoodValues (J.good (J.setting job.now)) self.now }
-        ensures ok { OnOk result (out.new.items ≡ out.old.items ++ lines_of (J.text (J.setting job.now)) self.now) }
-        ensures err { OnErr result (GainsPrefix (lines_of (J.text (J.setting job.now)) self.now) out.old.items out.new.items) }
+        ensures ok { OnOk result (out.new.items ≡ out.old.items ++ lines_of (meaning_of J.Job job.now).text self.now) }
+        ensures err { OnErr result (GainsPrefix (lines_of (meaning_of J.Job job.now).text self.now) out.old.items out.new.items) }
     {
         write_entries(alloc, job, self.entries.as_slice(), out)
     }
@@ -96,8 +97,8 @@ fn write_entries<J: Job>(
     out: &mut Vec<u8>,
 ) -> Result<(), AllocError>
     requires { HasGoodValues (J.good (J.setting job.now)) entries.now }
-    ensures ok { OnOk result (out.new.items ≡ out.old.items ++ lines_of (J.text (J.setting job.now)) entries.now) }
-    ensures err { OnErr result (GainsPrefix (lines_of (J.text (J.setting job.now)) entries.now) out.old.items out.new.items) }
+    ensures ok { OnOk result (out.new.items ≡ out.old.items ++ lines_of (meaning_of J.Job job.now).text entries.now) }
+    ensures err { OnErr result (GainsPrefix (lines_of (meaning_of J.Job job.now).text entries.now) out.old.items out.new.items) }
 {
     let mut rest = entries;
     'entries: while let [(key, val), more @ ..] = rest {

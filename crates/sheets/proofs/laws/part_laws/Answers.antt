@@ -3,7 +3,7 @@ use Rattle.sheets.proofs.laws.part_laws.Goals as goal
 
 pub returns : goal.returns
 returns g c =
-    let laws = g.met.J.Job g.world.𝓛 g.world.𝓜 g.world.𝓡 ((λ s x. x), (λ x. x), (λ x. x), λ x. x) in
+    let laws = g.met.J.Job in
     record {
       append = λ s parts part xs ys gx gy. table-in_part parts (laws.join_laws s) part xs ys gx gy;
       merge = λ s parts part t u. merged-in_part parts (g.J.Job.joined s) part t u;

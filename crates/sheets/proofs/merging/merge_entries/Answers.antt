@@ -19,10 +19,10 @@ entries-preserved-in-Equal g c =
           ap (λ es. es ++ merge_in_order join (rest_of t) (rest_of u)) (c.in_ok-push-in-Equal.ensures.items ∙ ap (λ v. c.entries.out.items ++ v ∷ []) c.in_ok-join_entries-in-Equal.ensures.ok)
           ∙ joins_step join c.entries.out.items t u e f some_left some_right c.e-item-in-entries.is c.f-item-in-entries.is c.in-Equal.ensures
           ∙ c.entries.invariant.rest;
-      maps = c.in_ok-join_entries-in-Equal.ensures.maps ∙ c.entries.invariant.maps;
-      merges = c.in_ok-join_entries-in-Equal.ensures.merges ∙ c.entries.invariant.merges;
-      least = omega (arith, c.in_ok-join_entries-in-Equal.ensures.joins);
-      most = omega (arith, c.in_ok-join_entries-in-Equal.ensures.joins, ties-joins t u e f some_left some_right c.e-item-in-entries.is c.f-item-in-entries.is c.in-Equal.ensures, c.entries.invariant.most);
+      maps = ap (λ n. n.maps) c.in_ok-join_entries-in-Equal.ensures.counted ∙ c.entries.invariant.maps;
+      merges = ap (λ n. n.merges) c.in_ok-join_entries-in-Equal.ensures.counted ∙ c.entries.invariant.merges;
+      least = omega (arith, ap (λ n. n.joins) c.in_ok-join_entries-in-Equal.ensures.counted, c.entries.invariant.least);
+      most = omega (arith, ap (λ n. n.joins) c.in_ok-join_entries-in-Equal.ensures.counted, ties-joins t u e f some_left some_right c.e-item-in-entries.is c.f-item-in-entries.is c.in-Equal.ensures, c.entries.invariant.most);
     }
 
 pub entries-preserved : goal.entries-preserved

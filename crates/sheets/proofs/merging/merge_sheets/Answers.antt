@@ -2,19 +2,11 @@ use Rattle.std.proofs.Common.{◌≡◌, ◌∙◌, arith}
 use Rattle.std.proofs.lemmas.Result.{IfOk-weaker}
 use Rattle.definitions.specs.Tables.{merged}
 use Rattle.sheets.proofs.MergedLaws.{rising_at, tied_at, merged_at, rising_merged, good_merged}
+use Rattle.sheets.proofs.RoseLaws.{merge_rose}
 use Rattle.sheets.proofs.merging.merge_sheets.Goals as goal
 
-pub returns-in_err-entries-clause-joins : goal.returns-in_err-entries-clause-joins
-returns-in_err-entries-clause-joins g c =
-    let x = c.args.a.now.entries in
-    let y = c.args.b.now.entries in
-    let rising_x = rising_at c.entries.result.now x c.entries.ensures.value c.as_slice.ensures.rising in
-    let rising_y = rising_at c.entries-2.result.now y c.entries-2.ensures.value c.as_slice-2.ensures.rising in
-    let tied = tied_at c.as_slice.result.now c.as_slice-2.result.now x y (c.as_slice.ensures.value ∙ c.entries.ensures.value) (c.as_slice-2.ensures.value ∙ c.entries-2.ensures.value) rising_x rising_y in
-    (omega (arith, c.merge.ensures.joins, c.merge_entries.ensures.joins), omega (arith, tied, c.merge.ensures.joins, c.merge_entries.ensures.joins))
-
-pub of-requires-after_bounds : goal.of-requires-after_bounds
-of-requires-after_bounds g c κs within =
+pub of-requires : goal.of-requires
+of-requires g c =
     let x = c.args.a.now.entries in
     let y = c.args.b.now.entries in
     let join = g.J.Job.joined (g.J.Job.setting c.args.job.now) in
@@ -22,9 +14,9 @@ of-requires-after_bounds g c κs within =
     let rising_y = rising_at c.entries-2.result.now y c.entries-2.ensures.value c.as_slice-2.ensures.rising in
     rising_merged join x y c.in_ok-entries.entries.items (c.in_ok-entries.ensures.ok ∙ merged_at join c.as_slice.result.now c.as_slice-2.result.now x y (c.as_slice.ensures.value ∙ c.entries.ensures.value) (c.as_slice-2.ensures.value ∙ c.entries-2.ensures.value) rising_x rising_y)
 
-pub of-requires-2-after_bounds : goal.of-requires-2-after_bounds
-of-requires-2-after_bounds g c κs within =
-    let laws = g.met.J.Job g.world.𝓛 g.world.𝓜 g.world.𝓡 ((λ s x. x), (λ x. x), (λ x. x), λ x. x) in
+pub of-requires-2 : goal.of-requires-2
+of-requires-2 g c =
+    let laws = g.met.J.Job in
     let s = g.J.Job.setting c.args.job.now in
     let x = c.args.a.now.entries in
     let y = c.args.b.now.entries in
@@ -42,11 +34,22 @@ returns-clause-entries g c =
     let rising_y = rising_at c.entries-2.result.now y c.entries-2.ensures.value c.as_slice-2.ensures.rising in
     IfOk-weaker c.of-2.result (λ sheet. sheet.entries ≡ c.of.result) (λ sheet. sheet.entries ≡ merged join x y) (λ sheet made. made ∙ c.of.ensures ∙ c.in_ok-entries.ensures.ok ∙ merged_at join c.as_slice.result.now c.as_slice-2.result.now x y (c.as_slice.ensures.value ∙ c.entries.ensures.value) (c.as_slice-2.ensures.value ∙ c.entries-2.ensures.value) rising_x rising_y) c.of-2.ensures.entries
 
-pub returns-clause-joins : goal.returns-clause-joins
-returns-clause-joins g c =
+pub returns-in_err-entries-clause-counted : goal.returns-in_err-entries-clause-counted
+returns-in_err-entries-clause-counted g c =
     let x = c.args.a.now.entries in
     let y = c.args.b.now.entries in
+    let count = g.J.Meter.Meter.counts in
     let rising_x = rising_at c.entries.result.now x c.entries.ensures.value c.as_slice.ensures.rising in
     let rising_y = rising_at c.entries-2.result.now y c.entries-2.ensures.value c.as_slice-2.ensures.rising in
     let tied = tied_at c.as_slice.result.now c.as_slice-2.result.now x y (c.as_slice.ensures.value ∙ c.entries.ensures.value) (c.as_slice-2.ensures.value ∙ c.entries-2.ensures.value) rising_x rising_y in
-    (omega (arith, c.merge.ensures.joins, c.merge_entries.ensures.joins), omega (arith, tied, c.merge.ensures.joins, c.merge_entries.ensures.joins))
+    merge_rose (count c.args.m.now) (count c.merge.new.self) (count c.merge_entries.new.m) tied c.merge.ensures c.merge_entries.ensures.counted
+
+pub returns-clause-counted : goal.returns-clause-counted
+returns-clause-counted g c =
+    let x = c.args.a.now.entries in
+    let y = c.args.b.now.entries in
+    let count = g.J.Meter.Meter.counts in
+    let rising_x = rising_at c.entries.result.now x c.entries.ensures.value c.as_slice.ensures.rising in
+    let rising_y = rising_at c.entries-2.result.now y c.entries-2.ensures.value c.as_slice-2.ensures.rising in
+    let tied = tied_at c.as_slice.result.now c.as_slice-2.result.now x y (c.as_slice.ensures.value ∙ c.entries.ensures.value) (c.as_slice-2.ensures.value ∙ c.entries-2.ensures.value) rising_x rising_y in
+    merge_rose (count c.args.m.now) (count c.merge.new.self) (count c.merge_entries.new.m) tied c.merge.ensures c.merge_entries.ensures.counted

@@ -34,13 +34,13 @@ lists-preserved g c =
       good = All-tail good c.in-Some.list rest (All-same good _ _ (sym c.in-Some.ensures.steps.0) c.lists.invariant.good);
     }
 
-pub of-requires-after_bounds : goal.of-requires-after_bounds
-of-requires-after_bounds g c κs within =
+pub of-requires : goal.of-requires
+of-requires g c =
     let rest = All-same IsRising _ _ (sym c.in-Some.ensures.steps.0) c.lists.invariant.rising in
     subst IsRising (sym c.into_entries.ensures) (All-head IsRising c.in-Some.list c.next.new.self.rest.items rest)
 
-pub of-requires-in-lists-after_bounds : goal.of-requires-in-lists-after_bounds
-of-requires-in-lists-after_bounds g c κs within =
+pub of-requires-in-lists : goal.of-requires-in-lists
+of-requires-in-lists g c =
     let good = HasGoodValues (g.J.Job.good c.args.setting) in
     let rest = All-same good _ _ (sym c.in-Some.ensures.steps.0) c.lists.invariant.good in
     subst good (sym (c.of.ensures ∙ c.into_entries.ensures)) (All-head good c.in-Some.list c.next.new.self.rest.items rest)
