@@ -28,3 +28,7 @@ most_parts = 16
 -- The places of a circle of buckets.
 abbrev pub most_places : ℕ
 most_places = 4096
+
+-- The members of a group that the job topk keeps.
+abbrev pub most_members : ℕ
+most_members = 1000

@@ -23,3 +23,6 @@ pub const MOST_PARTS: u32 = 16;
 
 /// The most places of a circle of buckets.
 pub const MOST_PLACES: u32 = 4_096;
+
+/// The most members of a group that the job topk keeps.
+pub const MOST_MEMBERS: u32 = 1_000;

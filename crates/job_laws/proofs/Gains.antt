@@ -20,6 +20,10 @@ pub gains_unless_ok : {A E : Type 0} (r : Result A E) (all more old new : List �
 gains_unless_ok (Ok x) all more old new is = tt
 gains_unless_ok (Err e) all more old new is = subst (GainsPrefix all old) (sym is) (gains_nothing all old)
 
+-- a piece was gained, and the rest is behind it
+pub gains_before : (before rest all old new : List ℕ) → all ≡ before ++ rest → new ≡ old ++ before → GainsPrefix all old new
+gains_before before rest all old new is at = (before, (rest, is), at)
+
 -- a piece was gained before, and then a prefix of the next one
 pub gains_within : (before piece rest all old mid new : List ℕ) → all ≡ before ++ (piece ++ rest) → mid ≡ old ++ before → GainsPrefix piece mid new → GainsPrefix all old new
 gains_within before piece rest all old mid new is at g =

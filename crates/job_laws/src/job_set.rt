@@ -1,5 +1,6 @@
 //! The jobs that a program is handed.
 ghost use Rattle.std.specs.Prelude.{◌≡◌, ◌≤◌, ℕ, List};
+ghost use Rattle.definitions.specs.Limits.{most_members};
 ghost use Rattle.job_laws.specs.Forms.{is_count_record, is_index_record, is_topk_record, is_latest_record};
 
 use crate::{Job, Meter, Swaps};
@@ -29,7 +30,7 @@ pub trait JobSet {
     /// The job `topk` that keeps `k` members, which is its setting.
     fn topk(&self, k: u32) -> Self::TopK
         requires least { 1 ≤ k }
-        requires most { k ≤ 1000 }
+        requires most { k ≤ most_members }
         ensures { Self.TopK.setting result ≡ k };
 
     /// The job `latest`, of setting 0.
@@ -41,7 +42,7 @@ pub trait JobSet {
 
     ghost index_accepts: { (r : List ℕ) → Self.Index.accepts 0 r ≡ is_index_record r };
 
-    ghost topk_accepts: { (k : ℕ) (r : List ℕ) → 1 ≤ k → k ≤ 1000 → Self.TopK.accepts k r ≡ is_topk_record r };
+    ghost topk_accepts: { (k : ℕ) (r : List ℕ) → 1 ≤ k → k ≤ most_members → Self.TopK.accepts k r ≡ is_topk_record r };
 
     ghost latest_accepts: { (r : List ℕ) → Self.Latest.accepts 0 r ≡ is_latest_record r };
 }
