@@ -96,7 +96,7 @@ held-live n id k fits h = some_case (replayed k.seen) refl fits.legal
     some_case None is some = cc
     some_case (Some s) is some = let live = pinned_is_live k.seen s is n id (subst (λ m. 0 < m) same h) in (s, live.0, is, live.1, live.2 ∙ sym same)
 
-list_any-filter : {X : Type 0} (test p : X → Bool) (xs : List X) → list_any test (filter p xs) ≡ true → list_any test xs ≡ true
+pub list_any-filter : {X : Type 0} (test p : X → Bool) (xs : List X) → list_any test (filter p xs) ≡ true → list_any test xs ≡ true
 list_any-filter test p [] h = h
 list_any-filter test p (x ∷ xs) h = filter_case (p x) h (list_any-filter test p xs)
   where

@@ -8,3 +8,6 @@ pub mod Newcomers
 pub mod Giving
 pub mod Handed
 pub mod Covering
+pub mod Answering
+pub mod OwnEvents
+pub mod Knowing

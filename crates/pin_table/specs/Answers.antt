@@ -11,6 +11,7 @@ use Rattle.memo_server.specs.declared.turn.Turn.TheVariants.{Made, Empty}
 use Rattle.memo_server.specs.declared.ops.ShardOp.{ShardOp}
 use Rattle.memo_server.specs.declared.ops.ShardOp.TheVariants.{Look as LookOp, Keep as KeepOp, Release as ReleaseOp, Sweep as SweepOp}
 use Rattle.memo_server.specs.declared.ops.ShardReply.{ShardReply}
+use Rattle.memo_server.specs.Views.{EntryView}
 use Rattle.memo_server.specs.Turns.{Answered}
 use Rattle.pin_table.specs.declared.answers.Looked.{Looked}
 use Rattle.pin_table.specs.declared.answers.Looked.TheVariants.{Hit, Absent, Clash}
@@ -18,7 +19,7 @@ use Rattle.pin_table.specs.declared.answers.Kept.{Kept}
 use Rattle.pin_table.specs.declared.answers.Kept.TheVariants.{Stored, Found, Clash as KeepClash}
 use Rattle.pin_table.specs.declared.answers.MemoFault.{MemoFault}
 use Rattle.pin_table.specs.declared.answers.MemoFault.TheVariants.{Worn, Mem}
-use Rattle.pin_table.specs.Views.{ShardKnown, CallerView}
+use Rattle.pin_table.specs.Views.{ShardKnown, CallerView, PinView}
 use Rattle.pin_table.specs.Known.{Gained, Missed, WornOut, AtShard}
 use Rattle.pin_table.specs.Placing.{shard_at}
 
@@ -31,6 +32,27 @@ Faults Mem s old new = AtShard (Missed old.number) s old new
 abbrev pub Went : ℕ → Turn → ShardKnown → ShardKnown → Type 0
 Went number (Made e) old new = Gained number e old new
 Went number Empty old new = Missed number old new
+
+module _ {I O : Type 0} (fits : I → O → Type 0) (digest_of : I → List ℕ) where
+  -- A look gave this pin, on an entry of its input.
+  abbrev pub HitAs : ℕ → ℕ → ℕ → I → PinView I O → ShardKnown → ShardKnown → Type 0
+  HitAs number s run input p old new = (p.caller ≡ number) × (p.shard ≡ s) × (p.input ≡ input) × fits p.input p.out × Gained number (Look number run (digest_of input) (HitAnswer p.id)) old new
+
+  -- A look met this entry, of another input with an equal digest.
+  abbrev pub ClashAs : ℕ → ℕ → I → EntryView I O → ShardKnown → ShardKnown → Type 0
+  ClashAs number run input e old new = (e.input ≢ input) × (digest_of e.input ≡ digest_of input) × fits e.input e.out × Gained number (Look number run (digest_of input) (ClashAnswer e.id)) old new
+
+  -- A keep stored what was handed in, and gave this pin on it.
+  abbrev pub StoredAs : ℕ → ℕ → ℕ → I → O → PinView I O → ShardKnown → ShardKnown → Type 0
+  StoredAs number s run input out p old new = (p.caller ≡ number) × (p.shard ≡ s) × (p.input ≡ input) × (p.out ≡ out) × Gained number (Keep number run (digest_of input) (StoredAnswer p.id)) old new
+
+  -- A keep found an entry of its input, and gave this pin on it.
+  abbrev pub FoundAs : ℕ → ℕ → ℕ → I → PinView I O → ShardKnown → ShardKnown → Type 0
+  FoundAs number s run input p old new = (p.caller ≡ number) × (p.shard ≡ s) × (p.input ≡ input) × fits p.input p.out × Gained number (Keep number run (digest_of input) (FoundAnswer p.id)) old new
+
+  -- A keep met this entry, of another input with an equal digest, and handed back what was handed in.
+  abbrev pub KeepClashAs : ℕ → ℕ → I → O → EntryView I O → I → O → ShardKnown → ShardKnown → Type 0
+  KeepClashAs number run input out e i o old new = (i ≡ input) × (o ≡ out) × (e.input ≢ input) × (digest_of e.input ≡ digest_of input) × fits e.input e.out × Gained number (Keep number run (digest_of input) (KeepClashAnswer e.id)) old new
 
 module _ {R I O : Type 0} (fits : I → O → Type 0) where
   -- What a caller may ask for, by its own events of the shard.
@@ -51,15 +73,15 @@ module _ {R I O : Type 0} (fits : I → O → Type 0) where
 
     -- A look at the shard, by its answer.
     abbrev pub LookedAs : ℕ → ℕ → ℕ → I → Looked R I O → ShardKnown → ShardKnown → Type 0
-    LookedAs number s run input (Hit p) old new = (p.caller ≡ number) × (p.shard ≡ s) × (p.input ≡ input) × fits p.input p.out × Gained number (Look number run (digest_of input) (HitAnswer p.id)) old new
+    LookedAs number s run input (Hit p) old new = HitAs fits digest_of number s run input p old new
     LookedAs number s run input Absent old new = Gained number (Look number run (digest_of input) AbsentAnswer) old new
-    LookedAs number s run input (Clash e) old new = (e.input ≢ input) × (digest_of e.input ≡ digest_of input) × fits e.input e.out × Gained number (Look number run (digest_of input) (ClashAnswer e.id)) old new
+    LookedAs number s run input (Clash e) old new = ClashAs fits digest_of number run input e old new
 
     -- A keep at the shard, by its answer.
     abbrev pub KeptAs : ℕ → ℕ → ℕ → I → O → Kept R I O → ShardKnown → ShardKnown → Type 0
-    KeptAs number s run input out (Stored p) old new = (p.caller ≡ number) × (p.shard ≡ s) × (p.input ≡ input) × (p.out ≡ out) × Gained number (Keep number run (digest_of input) (StoredAnswer p.id)) old new
-    KeptAs number s run input out (Found p) old new = (p.caller ≡ number) × (p.shard ≡ s) × (p.input ≡ input) × fits p.input p.out × Gained number (Keep number run (digest_of input) (FoundAnswer p.id)) old new
-    KeptAs number s run input out (KeepClash e i o) old new = (i ≡ input) × (o ≡ out) × (e.input ≢ input) × (digest_of e.input ≡ digest_of input) × fits e.input e.out × Gained number (Keep number run (digest_of input) (KeepClashAnswer e.id)) old new
+    KeptAs number s run input out (Stored p) old new = StoredAs fits digest_of number s run input out p old new
+    KeptAs number s run input out (Found p) old new = FoundAs fits digest_of number s run input p old new
+    KeptAs number s run input out (KeepClash e i o) old new = KeepClashAs fits digest_of number run input out e i o old new
 
     -- A look at the shard of its input.
     abbrev pub Looks : ℕ → I → Looked R I O → CallerView → CallerView → Type 0

@@ -5,7 +5,7 @@ use Rattle.memo_core.specs.declared.event.Event.{Event}
 use Rattle.memo_core.specs.History.{how_many, says}
 use Rattle.memo_server.specs.Callers.{gives}
 use Rattle.pin_table.specs.Views.{CallerView, PinView}
-use Rattle.pin_table.specs.Known.{known_at, held_at}
+use Rattle.pin_table.specs.Known.{known_at, held_at, IsWorn}
 use Rattle.pin_table.specs.Placing.{shard_at}
 use Rattle.pin_table.specs.declared.answers.Looked.{Looked}
 use Rattle.pin_table.specs.declared.answers.Looked.TheVariants.{Hit, Absent, Clash}
@@ -55,12 +55,23 @@ pub record IsLater (old new : CallerView) : Type 0 where
   pub seen : (s : ℕ) → (gain : List Event) × ((known_at s new).seen ≡ (known_at s old).seen ++ gain)
   pub mine : (s : ℕ) → (gain : List Event) × ((known_at s new).mine ≡ (known_at s old).mine ++ gain)
   pub shown : (s : ℕ) → (known_at s new).shown ≡ 0 → (known_at s old).shown ≡ 0
+  pub worn : (s : ℕ) → IsWorn s old → IsWorn s new
+
+-- The caller holds these pins more, and else what it held, at worn locks too.
+pub record Got (old : CallerView) (ps : List PinName) (new : CallerView) : Type 0 where
+  pub later : IsLater old new
+  pub held : (s id : ℕ) → held_at s id new ≡ held_at s id old + count s id ps
 
 -- While pins became others, what the caller holds beyond them stayed, or grew in a shard whose lock is worn.
 pub record Balanced (old : CallerView) (ps : List PinName) (new : CallerView) (qs : List PinName) : Type 0 where
   pub later : IsLater old new
   pub least : (s id : ℕ) → held_at s id old + count s id qs ≤ held_at s id new + count s id ps
   pub exact : (s : ℕ) → (known_at s new).shown ≡ 0 → (id : ℕ) → held_at s id old + count s id qs ≡ held_at s id new + count s id ps
+
+-- The pins are covered, and the caller holds nothing beyond them where no lock was shown worn.
+pub record Backed (c : CallerView) (ps : List PinName) : Type 0 where
+  pub covered : Covered c ps
+  pub exact : (s : ℕ) → (known_at s c).shown ≡ 0 → (id : ℕ) → held_at s id c ≡ count s id ps
 
 module _ {I O : Type 0} (digest_of : I → List ℕ) where
   -- The parts of a pin.

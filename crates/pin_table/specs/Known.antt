@@ -61,3 +61,7 @@ pub record AtShard (Goes : ShardKnown → ShardKnown → Type 0) (s : ℕ) (old 
   pub inside : s < length old.shards
   pub goes : Goes (known_at s old) next
   pub same : new ≡ record old { shards = slice_set old.shards s next }
+
+-- The caller was shown that the shard's lock is worn.
+abbrev pub IsWorn : ℕ → CallerView → Type 0
+IsWorn s c = 2 ^ 62 ≤ (known_at s c).shown

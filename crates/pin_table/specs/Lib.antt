@@ -5,5 +5,6 @@ pub mod Answers
 pub mod Ends
 pub mod Lasting
 pub mod Covers
+pub mod OwnEvents
 pub mod Closing
 pub mod Spread

@@ -1,11 +1,11 @@
 //! How an object that holds pins of one caller shows that they stay covered. The functions do nothing: a proof above calls the law
-//! by its name, or the lemma of the same meaning in `proofs/Covering.antt`.
+//! by its name, or the lemma of the same meaning in `proofs/Covering.antt` and `proofs/Answering.antt`.
 ghost use Rattle.std.specs.Prelude.{◌≡◌, ℕ, ◌<◌, List, [], ◌∷◌, ◌++◌};
 ghost use Rattle.memo_core.specs.declared.event.Event.TheVariants.{Release, Sweep};
 ghost use Rattle.pin_table.specs.Views.{CallerView};
 ghost use Rattle.pin_table.specs.Known.{CallerFits, Gained, WornOut, AtShard, held_at};
 ghost use Rattle.pin_table.specs.Answers.{Faults, Looks, Keeps};
-ghost use Rattle.pin_table.specs.Covers.{PinName, AreGiven, Covered, Balanced, looked_pins, kept_pins};
+ghost use Rattle.pin_table.specs.Covers.{PinName, count, AreGiven, Covered, Got, Balanced, Backed, looked_pins, kept_pins};
 ghost use Rattle.pin_table.specs.declared.answers.Looked.{Looked};
 ghost use Rattle.pin_table.specs.declared.answers.Kept.{Kept};
 ghost use Rattle.pin_table.specs.declared.answers.MemoFault.{MemoFault};
@@ -36,4 +36,19 @@ pub fn faults_balance()
 pub fn answers_balance<R: Recipe>()
     ensures look { (v w : CallerView) (ps : List PinName) (run : ℕ) (input : R.In) (looked : Looked R R.In R.Out) → CallerFits v → Covered v ps → Looks R.fits R.digest_of run input looked v w → Balanced v ps w (ps ++ looked_pins R.digest_of looked) × Covered w (ps ++ looked_pins R.digest_of looked) }
     ensures keep { (v w : CallerView) (ps : List PinName) (run : ℕ) (input : R.In) (out : R.Out) (kept : Kept R R.In R.Out) → CallerFits v → Covered v ps → Keeps R.fits R.digest_of run input out kept v w → Balanced v ps w (ps ++ kept_pins R.digest_of kept) × Covered w (ps ++ kept_pins R.digest_of kept) }
+{}
+
+/// After an answer a caller holds exactly what it held and the pin of the answer, at a worn lock too, and the pin was given.
+pub fn answers_hold<R: Recipe>()
+    ensures look { (v w : CallerView) (run : ℕ) (input : R.In) (looked : Looked R R.In R.Out) → CallerFits v → Looks R.fits R.digest_of run input looked v w → Got v (looked_pins R.digest_of looked) w × AreGiven w (looked_pins R.digest_of looked) }
+    ensures keep { (v w : CallerView) (run : ℕ) (input : R.In) (out : R.Out) (kept : Kept R R.In R.Out) → CallerFits v → Keeps R.fits R.digest_of run input out kept v w → Got v (kept_pins R.digest_of kept) w × AreGiven w (kept_pins R.digest_of kept) }
+    ensures fault { (f : MemoFault) (s : ℕ) (v w : CallerView) → Faults f s v w → Got v [] w }
+    ensures follow { (u v w : CallerView) (ps qs : List PinName) → Got u ps v → Got v qs w → Got u (ps ++ qs) w }
+    ensures beside { (v w : CallerView) (ps qs : List PinName) → Got v qs w → Balanced v ps w (ps ++ qs) }
+{}
+
+/// A balance keeps pins backed once the new pins are given; so does their order.
+pub fn backed_pins_stay()
+    ensures follow { (v w : CallerView) (ps qs : List PinName) → Backed v ps → Balanced v ps w qs → AreGiven w qs → Backed w qs }
+    ensures order { (v : CallerView) (ps qs : List PinName) → ((s id : ℕ) → count s id ps ≡ count s id qs) → AreGiven v qs → Backed v ps → Backed v qs }
 {}

@@ -1,4 +1,4 @@
-use Rattle.std.proofs.Common.{◌≡◌, take, drop, length, vec_len, vec_capacity}
+use Rattle.std.proofs.Common.{◌≡◌, take, drop, vec_len, vec_capacity}
 use Rattle.pin_table.specs.Closing.{Gives}
 use Rattle.pin_table.proofs.closing.gather.Given as goal
 

@@ -1,4 +1,4 @@
-use Rattle.pin_table.proofs.Covering.{looks, keeps}
+use Rattle.pin_table.proofs.Answering.{looks, keeps}
 use Rattle.pin_table.proofs.covers.answers_balance.Goals as goal
 
 pub returns-clause-look : goal.returns-clause-look

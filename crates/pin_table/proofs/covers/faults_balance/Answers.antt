@@ -1,4 +1,4 @@
-use Rattle.pin_table.proofs.Covering.{faults, sweeps}
+use Rattle.pin_table.proofs.Answering.{faults, sweeps}
 use Rattle.pin_table.proofs.covers.faults_balance.Goals as goal
 
 pub returns-clause-fault : goal.returns-clause-fault

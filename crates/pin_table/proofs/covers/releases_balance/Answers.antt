@@ -1,4 +1,5 @@
-use Rattle.pin_table.proofs.Covering.{covered-held, releases, lets-go}
+use Rattle.pin_table.proofs.Covering.{covered-held}
+use Rattle.pin_table.proofs.Answering.{releases, lets-go}
 use Rattle.pin_table.proofs.covers.releases_balance.Goals as goal
 
 pub returns-clause-held : goal.returns-clause-held

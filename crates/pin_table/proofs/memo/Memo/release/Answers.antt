@@ -1,5 +1,4 @@
 use Rattle.std.proofs.Common.{ℕ, ◌<◌, length, ap, sym, subst, ◌∙◌}
-use Rattle.memo_core.specs.History.{held}
 use Rattle.pin_table.specs.Views.{PinView}
 use Rattle.pin_table.specs.Known.{held_at}
 use Rattle.pin_table.proofs.Replies.{held-inside}

@@ -2,7 +2,8 @@ use Rattle.std.proofs.Common.{List, sym, subst}
 use Rattle.pin_table.specs.Views.{PinView}
 use Rattle.pin_table.specs.Covers.{Covered, names_of}
 use Rattle.pin_table.specs.declared.answers.Kept.TheVariants.{Stored, Found, Clash}
-use Rattle.pin_table.proofs.Covering.{keeps, faults, covered-same, covered-push, covered-kept}
+use Rattle.pin_table.proofs.Covering.{covered-same, covered-push, covered-kept}
+use Rattle.pin_table.proofs.Answering.{keeps, faults}
 use Rattle.pin_table.proofs.tests.Desk.keep.Goals as goal
 
 pub returns-in-Ok-Stored-clause-covered : goal.returns-in-Ok-Stored-clause-covered

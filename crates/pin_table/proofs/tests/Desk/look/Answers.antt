@@ -2,7 +2,8 @@ use Rattle.std.proofs.Common.{List, sym, subst}
 use Rattle.pin_table.specs.Views.{PinView}
 use Rattle.pin_table.specs.Covers.{Covered, names_of}
 use Rattle.pin_table.specs.declared.answers.Looked.TheVariants.{Hit, Absent, Clash}
-use Rattle.pin_table.proofs.Covering.{looks, faults, covered-same, covered-push, covered-kept}
+use Rattle.pin_table.proofs.Covering.{covered-same, covered-push, covered-kept}
+use Rattle.pin_table.proofs.Answering.{looks, faults}
 use Rattle.pin_table.proofs.tests.Desk.look.Goals as goal
 
 pub returns-in-Ok-Hit-clause-covered : goal.returns-in-Ok-Hit-clause-covered

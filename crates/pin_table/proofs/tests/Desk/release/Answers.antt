@@ -2,7 +2,8 @@ use Rattle.std.proofs.Common.{◌++◌, ◌∷◌, [], refl, sym, subst}
 use Rattle.pin_table.specs.Views.{PinView}
 use Rattle.pin_table.specs.Covers.{Covered, names_of}
 use Rattle.pin_table.specs.Covers.{name_of}
-use Rattle.pin_table.proofs.Covering.{covered-pop, last-own, last-held, last-released, last-stays, covered-push}
+use Rattle.pin_table.proofs.Covering.{covered-pop, covered-push}
+use Rattle.pin_table.proofs.Answering.{last-own, last-held, last-released, last-stays}
 use Rattle.pin_table.proofs.tests.Desk.release.Goals as goal
 
 pub release-requires-clause-own : goal.release-requires-clause-own

@@ -1,5 +1,6 @@
 use Rattle.pin_table.specs.Covers.{names_of}
-use Rattle.pin_table.proofs.Covering.{sweeps, faults, covered-same}
+use Rattle.pin_table.proofs.Covering.{covered-same}
+use Rattle.pin_table.proofs.Answering.{sweeps, faults}
 use Rattle.pin_table.proofs.tests.Desk.sweep.Goals as goal
 
 pub returns-in-Ok-clause-covered : goal.returns-in-Ok-clause-covered
