@@ -131,7 +131,7 @@ given-gained n e v w p numbered at own place given =
       given = ap (list_any (gave p.id p.digest)) (goes-there (Gained n e) p.shard v w at).mine ∙ last-any (gave p.id p.digest) (known_at p.shard v).mine e given;
     }
 
-same-pin : (id : ℕ) (digest : List ℕ) → ((id == id) && ((id == id) && bytes_eq digest digest)) ≡ true
+pub same-pin : (id : ℕ) (digest : List ℕ) → ((id == id) && ((id == id) && bytes_eq digest digest)) ≡ true
 same-pin id digest = let a : (id == id) ≡ true = grind (arith, nat_tests) in rw (a, nat_list_eq_equiv.refl digest) refl
 
 -- What an answer got, and that it was given.
