@@ -1,9 +1,10 @@
 -- Records, their text and their words.
 use Rattle.std.specs.Prelude.{◌≢◌, ◌≤◌, ℕ, Bool, ◌&&◌, ◌||◌, nat_le, if◌then◌else◌, List, [], ◌∷◌, ◌++◌, length, All}
+use Rattle.definitions.specs.Limits.{most_record}
 
 -- A record has at most 65535 bytes, and none of them is LF.
 abbrev pub IsRecord : List ℕ → Type 0
-IsRecord bytes = (length bytes ≤ 65535) × All (λ b. b ≢ 10) bytes
+IsRecord bytes = (length bytes ≤ most_record) × All (λ b. b ≢ 10) bytes
 
 -- Each of these is a record.
 abbrev pub AllRecords : List (List ℕ) → Type 0

@@ -5,6 +5,7 @@ use Rattle.std.specs.Ordering.{nat_cmp, eq_by_cmp}
 use Rattle.std.specs.Cmp.Lexicographic.{slice_cmp}
 use Rattle.std.specs.FinMap as finite
 use Rattle.std.specs.FinMap.Entries.{find, is_sorted, by_order}
+use Rattle.definitions.specs.Limits.{most_record}
 
 -- The byte order of keys.
 abbrev pub key_cmp : List ℕ → List ℕ → Ordering
@@ -70,11 +71,11 @@ abbrev pub HasGoodValues : {V : Type 0} → (V → Type 0) → List (List ℕ ×
 HasGoodValues good [] = Unit {0}
 HasGoodValues good (e ∷ es) = good e.1 × HasGoodValues good es
 
--- A key has 1 to 65535 bytes.
+-- A key has a byte, and no more than a record has.
 abbrev pub IsKey : List ℕ → Type 0
-IsKey key = (1 ≤ length key) × (length key ≤ 65535)
+IsKey key = (1 ≤ length key) × (length key ≤ most_record)
 
--- The keys of the entries have 1 to 65535 bytes.
+-- The keys of the entries are such keys.
 abbrev pub HasKeys : {V : Type 0} → List (List ℕ × V) → Type 0
 HasKeys [] = Unit {0}
 HasKeys (e ∷ es) = IsKey e.0 × HasKeys es
