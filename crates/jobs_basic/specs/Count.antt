@@ -1,14 +1,11 @@
 -- The job `count`: how often each word stands.
-use Rattle.std.specs.Prelude.{◌≡◌, ◌≤◌, ℕ, ◌+◌, ◌-◌, ◌^◌, min, Bool, nat_le, List, [], ◌∷◌, ◌++◌, length, map, decimal}
+use Rattle.std.specs.Prelude.{◌≡◌, ◌≤◌, ℕ, ◌+◌, ◌-◌, ◌^◌, min, List, map, decimal}
 use Rattle.std.proofs.Common.{arith}
 use Rattle.definitions.specs.Records.{words_of}
 use Rattle.definitions.specs.Tables.{HasGoodValues, IsGoodJoin}
 use Rattle.job_laws.specs.Encoding.{be64}
+use Rattle.jobs_basic.specs.Lines.{line_of}
 use Rattle.jobs_basic.specs.Words.{good_words}
-
--- Count accepts every record.
-abbrev pub count_accepts : List ℕ → Bool
-count_accepts r = nat_le (length r) 65535
 
 -- A word stands once.
 abbrev pub once : List ℕ → List ℕ × ℕ
@@ -26,9 +23,9 @@ count_joined a b = min (a + b) (2 ^ 64 - 1)
 abbrev pub count_good : ℕ → Type 0
 count_good n = n ≤ 2 ^ 64 - 1
 
--- The word, TAB, the number, LF.
+-- The line of the word with the number.
 abbrev pub count_text : List ℕ → ℕ → List ℕ
-count_text word n = word ++ (9 ∷ decimal n ++ 10 ∷ [])
+count_text word n = line_of word (decimal n)
 
 -- The number as 8 bytes.
 abbrev pub count_encoded : ℕ → List ℕ

@@ -1,14 +1,11 @@
 -- The job `index`: in which documents each word stands.
-use Rattle.std.specs.Prelude.{◌≤◌, ℕ, Bool, ◌&&◌, cond, suc, nat_le, nat_lt, List, [], ◌∷◌, ◌++◌, length, map, decimal, Option, Some, None}
+use Rattle.std.specs.Prelude.{◌≤◌, ℕ, cond, suc, nat_lt, List, [], ◌∷◌, ◌++◌, map, decimal, Option, Some, None}
 use Rattle.std.specs.List.{flat_map}
 use Rattle.definitions.specs.Records.{words_of}
 use Rattle.definitions.specs.Numbers.{digits_value}
-use Rattle.job_laws.specs.Forms.{split_at_tab, is_index_record}
+use Rattle.job_laws.specs.Forms.{split_at_tab}
 use Rattle.job_laws.specs.Encoding.{be32}
-
--- Index accepts the records of its form.
-abbrev pub index_accepts : List ℕ → Bool
-index_accepts r = nat_le (length r) 65535 && is_index_record r
+use Rattle.jobs_basic.specs.Lines.{line_of}
 
 -- A word with the list of one document.
 abbrev pub in_document : ℕ → List ℕ → List ℕ × List ℕ
@@ -46,19 +43,22 @@ RisesFrom least (d ∷ ds) = (least ≤ d) × (d ≤ 4294967295) × RisesFrom (s
 abbrev pub index_good : List ℕ → Type 0
 index_good ds = RisesFrom 0 ds
 
+-- A comma and the number.
+abbrev pub after_comma : ℕ → List ℕ
+after_comma d = 44 ∷ decimal d
+
 -- A comma and the number, for each.
 abbrev pub behind_commas : List ℕ → List ℕ
-behind_commas [] = []
-behind_commas (d ∷ ds) = 44 ∷ decimal d ++ behind_commas ds
+behind_commas ds = flat_map after_comma ds
 
 -- The numbers joined by commas.
 abbrev pub with_commas : List ℕ → List ℕ
 with_commas [] = []
 with_commas (d ∷ ds) = decimal d ++ behind_commas ds
 
--- The word, TAB, the numbers joined by commas, LF.
+-- The line of the word with the numbers joined by commas.
 abbrev pub index_text : List ℕ → List ℕ → List ℕ
-index_text word ds = word ++ (9 ∷ with_commas ds ++ 10 ∷ [])
+index_text word ds = line_of word (with_commas ds)
 
 -- Each document as 4 bytes, in order.
 abbrev pub index_encoded : List ℕ → List ℕ

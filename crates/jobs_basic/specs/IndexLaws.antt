@@ -1,12 +1,12 @@
 -- The laws of `index`.
-use Rattle.std.specs.Prelude.{◌≡◌, ◌≤◌, ◌<◌, ℕ, suc, Bool, true, false, nat_le, nat_lt, IsTrue, List, [], ◌∷◌, length, Option, Some, None}
+use Rattle.std.specs.Prelude.{◌≡◌, ◌≤◌, ◌<◌, ℕ, suc, Bool, true, false, nat_lt, IsTrue, List, [], ◌∷◌, Option, Some, None}
 use Rattle.std.proofs.Common.{refl, sym, ap, subst, ◌∙◌, arith}
 use Rattle.std.proofs.lemmas.Bool.{and_parts}
 use Rattle.definitions.specs.Numbers.{is_number, digits_value}
 use Rattle.definitions.specs.Tables.{HasGoodValues, IsGoodJoin}
-use Rattle.job_laws.specs.Forms.{split_at_tab, fields_pass, is_index_record}
+use Rattle.job_laws.specs.Forms.{split_at_tab, is_short, fields_pass, is_index_record}
 use Rattle.jobs_basic.specs.Words.{good_words}
-use Rattle.jobs_basic.specs.Index.{in_document, text_pairs, index_accepts, index_emits, union, index_joined, RisesFrom, index_good}
+use Rattle.jobs_basic.specs.Index.{in_document, text_pairs, index_emits, union, index_joined, RisesFrom, index_good}
 
 -- The three cases of two fronts.
 lower : (d : ℕ) (ds : List ℕ) (e : ℕ) (es : List ℕ) → d < e → union (d ∷ ds) (e ∷ es) ≡ d ∷ union ds (e ∷ es)
@@ -180,8 +180,8 @@ good_text (Some p) h =
     good_words index_good (in_document (digits_value p.0)) (λ word. (omega arith, fits, tt)) p.1
 
 -- Emitted lists are good.
-pub index_emits_good : (r : List ℕ) → IsTrue (index_accepts r) → HasGoodValues index_good (index_emits r)
-index_emits_good r h = good_text (split_at_tab r) (and_parts (nat_le (length r) 65535) (is_index_record r) h).1
+pub index_emits_good : (r : List ℕ) → IsTrue (is_index_record r) → HasGoodValues index_good (index_emits r)
+index_emits_good r h = good_text (split_at_tab r) (and_parts (is_short r) (fields_pass (λ doc text. is_number doc) (split_at_tab r)) h).1
 
 -- Joining keeps good lists, and is associative on them.
 pub index_join_laws : IsGoodJoin index_good index_joined

@@ -1,12 +1,9 @@
 -- The job `latest`: the value that came last for each key.
-use Rattle.std.specs.Prelude.{ℕ, Bool, ◌&&◌, nat_le, List, [], ◌∷◌, ◌++◌, length, Option, Some, None}
+use Rattle.std.specs.Prelude.{ℕ, List, [], ◌∷◌, Option, Some, None}
 use Rattle.std.proofs.Common.{refl}
 use Rattle.definitions.specs.Tables.{HasGoodValues, IsGoodJoin}
-use Rattle.job_laws.specs.Forms.{split_at_tab, is_latest_record}
-
--- Latest accepts the records of its form.
-abbrev pub latest_accepts : List ℕ → Bool
-latest_accepts r = nat_le (length r) 65535 && is_latest_record r
+use Rattle.job_laws.specs.Forms.{split_at_tab}
+use Rattle.jobs_basic.specs.Lines.{line_of}
 
 -- Both fields as one pair, where there is a TAB.
 abbrev pub field_pair : Option (List ℕ × List ℕ) → List (List ℕ × List ℕ)
@@ -25,9 +22,9 @@ latest_joined a b = b
 abbrev pub latest_good : List ℕ → Type 0
 latest_good v = Unit {0}
 
--- The key, TAB, the value, LF.
+-- The line of the key with the value.
 abbrev pub latest_text : List ℕ → List ℕ → List ℕ
-latest_text key v = key ++ (9 ∷ v ++ 10 ∷ [])
+latest_text key v = line_of key v
 
 -- The bytes of the value.
 abbrev pub latest_encoded : List ℕ → List ℕ

@@ -1,5 +1,6 @@
 //! Bytes that tables share.
 ghost use Rattle.std.specs.Prelude.{◌≡◌, ◌≤◌, length, IfOk};
+ghost use Rattle.definitions.specs.Limits.{most_record};
 
 use std::alloc::{AllocError, Global};
 use std::marker::Model;
@@ -14,18 +15,19 @@ pub struct Bytes {
 impl Model for Bytes {
     ghost use Rattle.std.specs.Prelude.{List, ℕ, ◌≤◌, length};
     ghost use Rattle.std.specs.Arc.{arc_slice_items};
+    ghost use Rattle.definitions.specs.Limits.{most_record};
 
     ghost Value = { List ℕ };
 
     ghost view = { λ b. arc_slice_items b.bytes };
 
-    ghost invariant = { λ b. length (arc_slice_items b.bytes) ≤ 65535 };
+    ghost invariant = { λ b. length (arc_slice_items b.bytes) ≤ most_record };
 }
 
 impl Bytes {
     /// These bytes, which are copied.
     pub fn of(alloc: Global, bytes: &[u8]) -> Result<Bytes, AllocError>
-        requires { length bytes.now ≤ 65535 }
+        requires { length bytes.now ≤ most_record }
         ensures { IfOk result (λ b. b ≡ bytes.now) }
     {
         let bytes = ArcSlice::from_slice(alloc, bytes)?;
@@ -35,7 +37,7 @@ impl Bytes {
     /// The bytes.
     pub fn bytes(&self) -> &[u8]
         ensures value { result.now ≡ self.now }
-        ensures fits { length self.now ≤ 65535 }
+        ensures fits { length self.now ≤ most_record }
     {
         self.bytes.as_slice()
     }

@@ -1,8 +1,14 @@
-//! Counts words.
-ghost use Rattle.std.specs.Prelude.{◌≡◌, ◌≤◌, length, IfOk};
-ghost use Rattle.jobs_basic.specs.Count.{count_accepts, count_emits, count_joined, count_good, count_text, count_encoded, count_emits_good, count_join_laws, count_joined_comm};
+//! The job that counts words: how often each stands, whatever the record.
+ghost use Rattle.std.specs.Prelude.{◌≡◌, ◌≤◌, ◌++◌, length, OnOk, OnErr};
+ghost use Rattle.definitions.specs.Limits.{most_record};
+ghost use Rattle.job_laws.specs.Forms.{is_count_record};
+ghost use Rattle.job_laws.specs.Gained.{GainsPairs};
+ghost use Rattle.jobs_basic.specs.Count.{count_emits, count_joined, count_good, count_text, count_encoded, count_emits_good, count_join_laws, count_joined_comm};
 
+use crate::lines::put_line;
 use crate::words::next_word;
+use definitions::MOST_RECORD;
+use itoa::Buffer;
 use job_laws::{Emit, Job, Key, Meter, Swaps, be64_bytes};
 use std::alloc::{AllocError, Global};
 use std::marker::PhantomData;
@@ -21,18 +27,22 @@ impl<M: Meter> Count<M> {
     }
 }
 
-// Each word of the record in order, with 1.
-fn count_words(alloc: Global, r: &[u8]) -> Result<Emit<u64>, AllocError>
-    requires { length r.now ≤ 65535 }
-    ensures { IfOk result (λ counted. counted ≡ count_emits r.now) }
+// Appends each word of the record in order, with 1; where memory runs out, a prefix of them.
+#[tactic(auto, using(job_laws::proofs::Gains::emitted_start, job_laws::proofs::Gains::emitted_more, job_laws::proofs::Gains::emitted_prefix, job_laws::proofs::Gains::emitted_end))]
+fn emit_words(r: &[u8], out: &mut Emit<u64>) -> Result<(), AllocError>
+    requires { length r.now ≤ most_record }
+    ensures ok { OnOk result (out.new ≡ out.old ++ count_emits r.now) }
+    ensures err { OnErr result (GainsPairs (count_emits r.now) out.old out.new) }
 {
-    let mut counted = Emit::new(alloc);
     let mut rest = r;
     'words: while let Some((word, behind)) = next_word(rest) {
-        counted.put(alloc, word, 1)?;
+        match out.put(word, 1) {
+            Ok(()) => (),
+            Err(e) => return Err(e),
+        }
         rest = behind;
     }
-    Ok(counted)
+    Ok(())
 }
 
 impl<M: Meter> Job for Count<M> {
@@ -42,7 +52,7 @@ impl<M: Meter> Job for Count<M> {
 
     ghost setting = { λ _. 0 };
 
-    ghost accepts = { λ _ r. count_accepts r };
+    ghost accepts = { λ _ r. is_count_record r };
 
     ghost emits = { λ _ r. count_emits r };
 
@@ -59,19 +69,18 @@ impl<M: Meter> Job for Count<M> {
     }
 
     fn accepts(&self, r: &[u8]) -> bool {
-        r.len() <= 65535
+        r.len() <= MOST_RECORD
     }
 
     fn map(
         &self,
-        alloc: Global,
+        _alloc: Global,
         r: &[u8],
         out: &mut Emit<u64>,
         m: &mut M,
     ) -> Result<(), AllocError> {
         m.map();
-        let counted = count_words(alloc, r)?;
-        out.append(counted)
+        emit_words(r, out)
     }
 
     fn combine(&self, _alloc: Global, a: &u64, b: &u64, m: &mut M) -> Result<u64, AllocError> {
@@ -79,11 +88,9 @@ impl<M: Meter> Job for Count<M> {
         Ok(a.saturating_add(*b))
     }
 
-    fn line(&self, alloc: Global, k: &Key, v: &u64, out: &mut Vec<u8>) -> Result<(), AllocError> {
-        let n = *v;
-        let behind = format!(in alloc; "\t{n}\n")?;
-        out.extend_from_slice(k.bytes())?;
-        out.extend_from_slice(behind.as_bytes())
+    fn line(&self, _alloc: Global, k: &Key, v: &u64, out: &mut Vec<u8>) -> Result<(), AllocError> {
+        let mut number = Buffer::new();
+        put_line(k.bytes(), number.format(*v).as_bytes(), out)
     }
 
     fn copy(_alloc: Global, v: &u64) -> Result<u64, AllocError> {

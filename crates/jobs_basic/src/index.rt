@@ -1,11 +1,17 @@
-//! Lists the documents of each word.
-ghost use Rattle.std.specs.Prelude.{◌≡◌, ◌≤◌, length, map, IfOk};
+//! The job that lists the documents of each word.
+ghost use Rattle.std.specs.Prelude.{◌≡◌, ◌≤◌, ◌++◌, length, map, OnOk, OnErr};
+ghost use Rattle.definitions.specs.Limits.{most_record};
+ghost use Rattle.definitions.specs.Outside.{GainsPrefix};
 ghost use Rattle.definitions.specs.Records.{words_of};
-ghost use Rattle.jobs_basic.specs.Index.{in_document, index_accepts, index_emits, index_joined, index_good, index_text, index_encoded};
+ghost use Rattle.job_laws.specs.Forms.{is_index_record};
+ghost use Rattle.job_laws.specs.Gained.{GainsPairs};
+ghost use Rattle.jobs_basic.specs.Index.{in_document, index_emits, index_joined, index_good, after_comma, behind_commas, with_commas, index_text, index_encoded};
 ghost use Rattle.jobs_basic.specs.IndexLaws.{index_emits_good, index_join_laws, index_joined_comm};
 
 use crate::Docs;
 use crate::words::next_word;
+use definitions::MOST_RECORD;
+use itoa::Buffer;
 use job_laws::{Emit, Job, Key, Meter, Swaps, be32_bytes, tab_at};
 use record_text::parse_number;
 use std::alloc::{AllocError, Global};
@@ -25,40 +31,83 @@ impl<M: Meter> Index<M> {
     }
 }
 
-// Each word of the text in order, with the document alone.
-fn index_words(alloc: Global, doc: u32, text: &[u8]) -> Result<Emit<Docs>, AllocError>
-    requires { length text.now ≤ 65535 }
-    ensures { IfOk result (λ found. found ≡ map (in_document doc) (words_of text.now)) }
+// Appends each word of the text in order, with the document alone; where memory runs out, a prefix of them.
+#[tactic(auto, using(job_laws::proofs::Gains::emitted_start, job_laws::proofs::Gains::emitted_more, job_laws::proofs::Gains::emitted_prefix, job_laws::proofs::Gains::emitted_end))]
+fn index_words(alloc: Global, doc: u32, text: &[u8], out: &mut Emit<Docs>) -> Result<(), AllocError>
+    requires { length text.now ≤ most_record }
+    ensures ok { OnOk result (out.new ≡ out.old ++ map (in_document doc) (words_of text.now)) }
+    ensures err { OnErr result (GainsPairs (map (in_document doc) (words_of text.now)) out.old out.new) }
 {
-    let mut found = Emit::new(alloc);
     let mut rest = text;
     'words: while let Some((word, behind)) = next_word(rest) {
-        let docs = Docs::of(alloc, doc)?;
-        found.put(alloc, word, docs)?;
+        let docs = match Docs::of(alloc, doc) {
+            Ok(docs) => docs,
+            Err(e) => return Err(e),
+        };
+        match out.put(word, docs) {
+            Ok(()) => (),
+            Err(e) => return Err(e),
+        }
         rest = behind;
     }
-    Ok(found)
+    Ok(())
 }
 
-// The line of a word with its documents.
-fn index_line(alloc: Global, word: &[u8], docs: &[u32]) -> Result<Vec<u8>, AllocError>
-    ensures { IfOk result (λ line. line.items ≡ index_text word.now docs.now) }
+// Appends a comma and the number; where memory runs out, a prefix of them.
+fn put_next(doc: u32, out: &mut Vec<u8>) -> Result<(), AllocError>
+    ensures ok { OnOk result (out.new.items ≡ out.old.items ++ after_comma doc) }
+    ensures err { OnErr result (GainsPrefix (after_comma doc) out.old.items out.new.items) }
 {
-    let mut line = Vec::new(alloc);
-    line.extend_from_slice(word)?;
-    line.push(b'\t')?;
-    if let [first, more @ ..] = docs {
-        let n = *first;
-        let number = format!(in alloc; "{n}")?;
-        line.extend_from_slice(number.as_bytes())?;
-        'more: for doc in more {
-            let n = *doc;
-            let field = format!(in alloc; ",{n}")?;
-            line.extend_from_slice(field.as_bytes())?;
+    let mut number = Buffer::new();
+    out.push(b',')?;
+    out.extend_from_slice(number.format(doc).as_bytes())
+}
+
+// Appends each number behind a comma; where memory runs out, a prefix of them.
+fn put_behind(docs: &[u32], out: &mut Vec<u8>) -> Result<(), AllocError>
+    ensures ok { OnOk result (out.new.items ≡ out.old.items ++ behind_commas docs.now) }
+    ensures err { OnErr result (GainsPrefix (behind_commas docs.now) out.old.items out.new.items) }
+{
+    'docs: for doc in docs {
+        match put_next(*doc, out) {
+            Ok(()) => (),
+            Err(e) => return Err(e),
         }
     }
-    line.push(b'\n')?;
-    Ok(line)
+    Ok(())
+}
+
+// Appends the numbers with commas between them; where memory runs out, a prefix of them.
+fn put_docs(docs: &[u32], out: &mut Vec<u8>) -> Result<(), AllocError>
+    ensures ok { OnOk result (out.new.items ≡ out.old.items ++ with_commas docs.now) }
+    ensures err { OnErr result (GainsPrefix (with_commas docs.now) out.old.items out.new.items) }
+{
+    match docs {
+        [] => Ok(()),
+        [first, more @ ..] => {
+            let mut number = Buffer::new();
+            out.extend_from_slice(number.format(*first).as_bytes())?;
+            match put_behind(more, out) {
+                Ok(()) => Ok(()),
+                Err(e) => Err(e),
+            }
+        }
+    }
+}
+
+// Appends the line of a word with its documents; where memory runs out, a prefix of it.
+fn put_line(word: &[u8], docs: &[u32], out: &mut Vec<u8>) -> Result<(), AllocError>
+    ensures ok { OnOk result (out.new.items ≡ out.old.items ++ index_text word.now docs.now) }
+    ensures err { OnErr result (GainsPrefix (index_text word.now docs.now) out.old.items out.new.items) }
+{
+    out.extend_from_slice(word)?;
+    out.push(b'\t')?;
+    match put_docs(docs, out) {
+        Ok(()) => (),
+        Err(e) => return Err(e),
+    }
+    out.push(b'\n')?;
+    Ok(())
 }
 
 impl<M: Meter> Job for Index<M> {
@@ -68,7 +117,7 @@ impl<M: Meter> Job for Index<M> {
 
     ghost setting = { λ _. 0 };
 
-    ghost accepts = { λ _ r. index_accepts r };
+    ghost accepts = { λ _ r. is_index_record r };
 
     ghost emits = { λ _ r. index_emits r };
 
@@ -86,7 +135,7 @@ impl<M: Meter> Job for Index<M> {
 
     fn accepts(&self, r: &[u8]) -> bool {
         let at = tab_at(r);
-        r.len() <= 65535 && at < r.len() && parse_number(&r[..at]).is_some()
+        r.len() <= MOST_RECORD && at < r.len() && parse_number(&r[..at]).is_some()
     }
 
     fn map(
@@ -99,8 +148,10 @@ impl<M: Meter> Job for Index<M> {
         m.map();
         let at = tab_at(r);
         if let Some(doc) = parse_number(&r[..at]) {
-            let found = index_words(alloc, doc, &r[at + 1..])?;
-            out.append(found)?;
+            match index_words(alloc, doc, &r[at + 1..], out) {
+                Ok(()) => (),
+                Err(e) => return Err(e),
+            }
         }
         Ok(())
     }
@@ -110,9 +161,8 @@ impl<M: Meter> Job for Index<M> {
         a.union(alloc, b)
     }
 
-    fn line(&self, alloc: Global, k: &Key, v: &Docs, out: &mut Vec<u8>) -> Result<(), AllocError> {
-        let line = index_line(alloc, k.bytes(), v.docs())?;
-        out.extend_from_slice(line.as_slice())
+    fn line(&self, _alloc: Global, k: &Key, v: &Docs, out: &mut Vec<u8>) -> Result<(), AllocError> {
+        put_line(k.bytes(), v.docs(), out)
     }
 
     fn copy(alloc: Global, v: &Docs) -> Result<Docs, AllocError> {

@@ -1,8 +1,10 @@
-//! Keeps the latest value.
-ghost use Rattle.std.specs.Prelude.{◌≡◌, IfOk};
-ghost use Rattle.jobs_basic.specs.Latest.{latest_accepts, latest_emits, latest_joined, latest_good, latest_text, latest_encoded, latest_emits_good, latest_join_laws};
+//! The job that keeps the value which came last for each key.
+ghost use Rattle.job_laws.specs.Forms.{is_latest_record};
+ghost use Rattle.jobs_basic.specs.Latest.{latest_emits, latest_joined, latest_good, latest_text, latest_encoded, latest_emits_good, latest_join_laws};
 
 use crate::Bytes;
+use crate::lines::put_line;
+use definitions::MOST_RECORD;
 use job_laws::{Emit, Job, Key, Meter, tab_at};
 use std::alloc::{AllocError, Global};
 use std::marker::PhantomData;
@@ -21,18 +23,6 @@ impl<M: Meter> Latest<M> {
     }
 }
 
-// The line of a key with its value.
-fn latest_line(alloc: Global, key: &[u8], value: &[u8]) -> Result<Vec<u8>, AllocError>
-    ensures { IfOk result (λ line. line.items ≡ latest_text key.now value.now) }
-{
-    let mut line = Vec::new(alloc);
-    line.extend_from_slice(key)?;
-    line.push(b'\t')?;
-    line.extend_from_slice(value)?;
-    line.push(b'\n')?;
-    Ok(line)
-}
-
 impl<M: Meter> Job for Latest<M> {
     type Val = Bytes;
 
@@ -40,7 +30,7 @@ impl<M: Meter> Job for Latest<M> {
 
     ghost setting = { λ _. 0 };
 
-    ghost accepts = { λ _ r. latest_accepts r };
+    ghost accepts = { λ _ r. is_latest_record r };
 
     ghost emits = { λ _ r. latest_emits r };
 
@@ -58,7 +48,7 @@ impl<M: Meter> Job for Latest<M> {
 
     fn accepts(&self, r: &[u8]) -> bool {
         let at = tab_at(r);
-        r.len() <= 65535 && at < r.len() && at > 0
+        r.len() <= MOST_RECORD && at < r.len() && at > 0
     }
 
     fn map(
@@ -71,7 +61,7 @@ impl<M: Meter> Job for Latest<M> {
         m.map();
         let at = tab_at(r);
         let value = Bytes::of(alloc, &r[at + 1..])?;
-        out.put(alloc, &r[..at], value)
+        out.put(&r[..at], value)
     }
 
     fn combine(
@@ -85,9 +75,14 @@ impl<M: Meter> Job for Latest<M> {
         b.share()
     }
 
-    fn line(&self, alloc: Global, k: &Key, v: &Bytes, out: &mut Vec<u8>) -> Result<(), AllocError> {
-        let line = latest_line(alloc, k.bytes(), v.bytes())?;
-        out.extend_from_slice(line.as_slice())
+    fn line(
+        &self,
+        _alloc: Global,
+        k: &Key,
+        v: &Bytes,
+        out: &mut Vec<u8>,
+    ) -> Result<(), AllocError> {
+        put_line(k.bytes(), v.bytes(), out)
     }
 
     fn copy(_alloc: Global, v: &Bytes) -> Result<Bytes, AllocError> {

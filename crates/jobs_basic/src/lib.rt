@@ -8,6 +8,7 @@ mod count;
 mod docs;
 mod index;
 mod latest;
+mod lines;
 #[cfg(test)]
 mod tests;
 mod words;

@@ -18,8 +18,8 @@ fn pairs<J: Job<Val = u64>>(
         job.map(alloc, r, &mut out, m)?;
     }
     let mut text = String::new(alloc);
-    for (key, value) in out.pairs() {
-        let bytes = key.bytes();
+    for i in 0..out.len() {
+        let (bytes, value) = out.pair(i);
         let n = *value;
         text.push_str(format!(in alloc; "{bytes:?}={n} ")?.as_str())?;
     }
@@ -69,9 +69,9 @@ fn a_record_of_65535_bytes_is_accepted(rt: HostRuntime) -> Result<(), Fail> {
     assert!(rt; job.accepts(&long[..65535]));
     let mut out = Emit::new(rt.alloc());
     job.map(rt.alloc(), &long[..65535], &mut out, &mut m)?;
-    assert_eq!(rt; out.pairs().len(), 1);
-    for (key, _) in out.pairs() {
-        assert_eq!(rt; key.bytes().len(), 65535);
+    assert_eq!(rt; out.len(), 1);
+    for i in 0..out.len() {
+        assert_eq!(rt; out.pair(i).0.len(), 65535);
     }
     Ok(())
 }
@@ -123,11 +123,13 @@ fn the_latest_value_stays(rt: HostRuntime) -> Result<(), Fail> {
         job.map(rt.alloc(), b"key\tva\tlue", &mut out, &mut m)?;
     }
     let mut lines = Vec::new(rt.alloc());
-    for (key, value) in out.pairs() {
-        job.line(rt.alloc(), key, value, &mut lines)?;
+    for i in 0..out.len() {
+        let (bytes, value) = out.pair(i);
+        let key = Key::of(rt.alloc(), bytes)?;
+        job.line(rt.alloc(), &key, value, &mut lines)?;
         let later = Bytes::of(rt.alloc(), b"")?;
         let joined = job.combine(rt.alloc(), value, &later, &mut m)?;
-        job.line(rt.alloc(), key, &joined, &mut lines)?;
+        job.line(rt.alloc(), &key, &joined, &mut lines)?;
         assert!(rt; Latest::<CountMeter>::same(&joined, &later));
         assert!(rt; !Latest::<CountMeter>::same(&joined, value));
         let again = Latest::<CountMeter>::copy(rt.alloc(), value)?;
@@ -199,8 +201,8 @@ fn each_word_stands_with_its_document(rt: HostRuntime) -> Result<(), Fail> {
         }
     }
     let mut text = String::new(rt.alloc());
-    for (key, docs) in out.pairs() {
-        let word = key.bytes();
+    for i in 0..out.len() {
+        let (word, docs) = out.pair(i);
         let documents = docs.docs();
         text.push_str(format!(in rt.alloc(); "{word:?}={documents:?} ")?.as_str())?;
     }

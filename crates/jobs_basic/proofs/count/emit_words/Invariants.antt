@@ -1,11 +1,12 @@
-use Rattle.std.proofs.Common.{◌≡◌, ◌≤◌, ◌++◌, length, map}
+use Rattle.std.proofs.Common.{◌≤◌, length, map}
 use Rattle.definitions.specs.Records.{words_of}
 use Rattle.jobs_basic.specs.Count.{once, count_emits}
-use Rattle.jobs_basic.proofs.count.count_words.Given as goal
+use Rattle.job_laws.proofs.Gains.{Emitted}
+use Rattle.jobs_basic.proofs.count.emit_words.Given as goal
 
 abbrev pub invariant-words : goal.invariant-words
 invariant-words l = record {
-  counted : l.counted ++ map once (words_of l.rest) ≡ count_emits l.r;
+  emitted : Emitted (count_emits l.r) l.initial.out l.out (map once (words_of l.rest));
   within : length l.rest ≤ length l.r;
 }
 
