@@ -164,7 +164,7 @@ IsOther (Drop n) = ⊥
 IsOther (Late place more) = ⊥
 IsOther c = Unit {0}
 
-other_has : (kind : Kind) (c : Command) → kind ≢ Kinds.Document → IsOther c → has_command kind c ≡ false
+pub other_has : (kind : Kind) (c : Command) → kind ≢ Kinds.Document → IsOther c → has_command kind c ≡ false
 other_has Kinds.Document c is other = absurd (is refl)
 other_has kind (Bucket records) is other = absurd other
 other_has kind (Drop n) is other = absurd other

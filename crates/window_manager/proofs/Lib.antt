@@ -5,3 +5,6 @@ pub mod BucketLaws
 pub mod DocumentLaws
 pub mod ViewLaws
 pub mod JoinLaws
+pub mod SlideLaws
+pub mod SinceLaws
+pub mod SinceSteps

@@ -22,10 +22,10 @@ has_if true m r l e = refl
 has_if false m r l e = absurd (not_none NotHere (sym e))
 
 -- a command that is not refused is one of the kind's
-has : (accepts : List ℕ → Bool) (w : WindowState) (c : Command) → refusal_of accepts w c ≡ None → has_command w.kind c ≡ true
+pub has : (accepts : List ℕ → Bool) (w : WindowState) (c : Command) → refusal_of accepts w c ≡ None → has_command w.kind c ≡ true
 has accepts w c e = has_if (has_command w.kind c) (asks_too_many w c) (first_refused accepts (brought c)) (is_large (window_after w c)) e
 
-not_true : {A : Type 0} → false ≡ true → A
+pub not_true : {A : Type 0} → false ≡ true → A
 not_true e = absurd (subst IsTrueTest (sym e) tt)
 
 -- a command of buckets changes no file

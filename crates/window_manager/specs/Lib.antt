@@ -4,3 +4,4 @@ pub mod Slides
 pub mod Buckets
 pub mod Splices
 pub mod Views
+pub mod Since

@@ -1,5 +1,6 @@
-//! What holds of the definitions.
+//! What holds of the definitions. Each function does nothing: its contract is the law, which a caller has by calling it.
 ghost use Rattle.window_manager.specs.OlderRule.{SameWithoutFiles};
+ghost use Rattle.window_manager.specs.Since.{SinceAnew, SinceNew, SinceOn};
 ghost use Rattle.window_manager.specs.Splices.{SplicesJoin};
 
 /// Over commands that name no file the rule of windows is the older one, in leaves and in refusals.
@@ -11,4 +12,12 @@ pub fn same_without_files()
 /// first to the last.
 pub fn splices_join()
     ensures { SplicesJoin }
+{}
+
+/// How a window leads on from the leaves of the last run: from none before the first command, from its own after a run, and
+/// from the same as before after each command that it carries out.
+pub fn since_laws()
+    ensures new { SinceNew }
+    ensures anew { SinceAnew }
+    ensures on { SinceOn }
 {}

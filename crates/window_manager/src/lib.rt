@@ -18,5 +18,5 @@ mod tests;
 mod window;
 
 pub use fault::WindowFault;
-pub use laws::{same_without_files, splices_join};
+pub use laws::{same_without_files, since_laws, splices_join};
 pub use window::Window;
