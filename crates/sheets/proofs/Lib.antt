@@ -2,6 +2,7 @@ pub mod MergeSteps
 mod PairLaws
 mod KeyGroups
 mod RoseLaws
+mod DigestSteps
 pub mod EntryLaws
 pub mod TieLaws
 pub mod MergedLaws

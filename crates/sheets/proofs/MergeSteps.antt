@@ -9,7 +9,7 @@ use Rattle.sheets.specs.Sheets.{ties}
 abbrev pub rest_of : {X : Type 0} → List X → List X
 rest_of xs = take (length xs - 1) (drop 1 xs)
 
-rest_is : {X : Type 0} (xs : List X) → rest_of xs ≡ drop 1 xs
+pub rest_is : {X : Type 0} (xs : List X) → rest_of xs ≡ drop 1 xs
 rest_is xs = grind (arith, common_steps)
 
 module _ {V : Type 0} where

@@ -1,40 +1,44 @@
-//! The digest of a table.
-ghost use Rattle.std.specs.Prelude.{◌≡◌, ◌++◌, [], IfOk, OnOk};
-ghost use Rattle.sheets.specs.Digests.{entry_bytes, table_bytes, table_digest};
+//! What a table is as bytes, entry by entry, and their hash.
+ghost use Rattle.std.specs.Prelude.{◌≡◌, ◌++◌, ℕ, List, IfOk, OnOk};
+ghost use Rattle.sheets.specs.Digests.{HoldsBut, entry_bytes, table_bytes, table_digest};
 
 use job_laws::{Job, Key, be64_bytes};
 use sha2::{Digest, Sha256};
 use std::alloc::{AllocError, Global};
 
-/// The digest of a table: SHA-256, of FIPS 180-4, over its entries as bytes. It hashes them in one piece.
+/// How many bytes of a table are gathered before they are hashed, in bytes. A piece stays in a processor's cache.
+const PIECE: usize = 32_768;
+
+/// The digest of a table: SHA-256, of FIPS 180-4, over its entries as bytes. They are hashed piece by piece, so it takes
+/// room for two pieces at the most, or for the longest entry.
 pub(crate) fn digest_of<J: Job>(
     alloc: Global,
     entries: &[(Key, J::Val)],
 ) -> Result<[u8; 32], AllocError>
     ensures { IfOk result (λ digest. digest ≡ table_digest J.encoded entries.now) }
 {
-    let mut bytes = Vec::new(alloc);
-    encode_entries::<J>(alloc, entries, &mut bytes)?;
-    Ok(Sha256::digest(bytes.as_slice()))
-}
-
-fn encode_entries<J: Job>(
-    alloc: Global,
-    entries: &[(Key, J::Val)],
-    out: &mut Vec<u8>,
-) -> Result<(), AllocError>
-    ensures { OnOk result (out.new.items ≡ out.old.items ++ table_bytes J.encoded entries.now) }
-{
+    let mut hasher = Sha256::new();
     let mut val = Vec::new(alloc);
+    let mut bytes = Vec::new(alloc);
+    bytes.reserve(entries.len().min(PIECE / 32) * 64)?;
     let mut rest = entries;
     'entries: while let [e, more @ ..] = rest {
-        match encode_entry::<J>(e, &mut val, out) {
-            Ok(()) => (),
-            Err(e) => return Err(e),
-        }
+        encode_entry::<J>(e, &mut val, &mut bytes)?;
+        hash_full(&mut hasher, &mut bytes);
         rest = more;
     }
-    Ok(())
+    hasher.update(bytes.as_slice());
+    Ok(hasher.finalize())
+}
+
+// Hashes the bytes where they are a piece or more.
+fn hash_full(hasher: &mut Sha256, bytes: &mut Vec<u8>)
+    ensures { (m : List ℕ) → HoldsBut hasher.old bytes.old.items m → HoldsBut hasher.new bytes.new.items m }
+{
+    if bytes.len() >= PIECE {
+        hasher.update(bytes.as_slice());
+        bytes.clear();
+    }
 }
 
 // `val` is room for the value's encoding, whose length comes before it.
