@@ -7,9 +7,6 @@ use Rattle.sheets.specs.Sheets.{ties}
 use Rattle.sheets.proofs.TieLaws.{ties-common}
 
 module _ {V : Type 0} where
-  pub rising_at : (s x : List (List ℕ × V)) → s ≡ x → IsRising s → IsRising x
-  rising_at s x is r = subst IsRising is r
-
   pub tied_at : (s t x y : List (List ℕ × V)) → s ≡ x → t ≡ y → IsRising x → IsRising y → ties s t ≡ common_keys x y
   tied_at s t x y a b r q = (λ i. ties (a i) (b i)) ∙ ties-common x y r q
 

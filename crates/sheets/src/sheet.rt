@@ -24,7 +24,7 @@ pub struct Sheet<J: Job> {
 
 impl<J: Job> Model for Sheet<J> {
     ghost use Rattle.std.specs.Arc.{arc_value};
-    ghost use Rattle.definitions.specs.Tables.{HasGoodValues};
+    ghost use Rattle.definitions.specs.Tables.{IsRising, HasGoodValues};
     ghost use Rattle.std.specs.Prelude.{◌≡◌};
     ghost use Rattle.sheets.specs.Sheets.{SheetOf};
     ghost use Rattle.sheets.specs.Digests.{table_digest};
@@ -33,7 +33,7 @@ impl<J: Job> Model for Sheet<J> {
 
     ghost view = { λ s. record { setting = s.setting; entries = arc_value s.table } };
 
-    ghost invariant = { λ s. HasGoodValues (J.good s.setting) (arc_value s.table) × (s.digest ≡ table_digest J.encoded (arc_value s.table)) };
+    ghost invariant = { λ s. IsRising (arc_value s.table) × HasGoodValues (J.good s.setting) (arc_value s.table) × (s.digest ≡ table_digest J.encoded (arc_value s.table)) };
 }
 
 impl<J: Job> Sheet<J> {
@@ -62,7 +62,9 @@ impl<J: Job> Sheet<J> {
 
     /// The same sheet once more. Nothing is copied; it fails only where the count of its owners is full.
     pub fn share(&self) -> Result<Sheet<J>, AllocError>
-        ensures { IfOk result (λ s. s ≡ self.now) }
+        ensures same { IfOk result (λ s. s ≡ self.now) }
+        ensures rising { IsRising self.now.entries }
+        ensures good { HasGoodValues (J.good self.now.setting) self.now.entries }
     {
         let table = Arc::try_clone(&self.table)?;
         Ok(Sheet {
@@ -90,6 +92,7 @@ impl<J: Job> Sheet<J> {
     /// The table. It takes no memory.
     pub fn entries(&self) -> &Table<J>
         ensures value { result.now ≡ self.now.entries }
+        ensures rising { IsRising self.now.entries }
         ensures good { HasGoodValues (J.good self.now.setting) self.now.entries }
     {
         &self.table
