@@ -5,14 +5,14 @@ use Rattle.std.specs.FinMap as finite
 use Rattle.std.specs.FinMap.Entries.{find-where_key}
 use Rattle.std.proofs.lemmas.Bool.Decides.{nat_tests}
 use Rattle.definitions.specs.Tables.{key_cmp, IsRising, HasGoodValues, IsGoodJoin, value_at, joined_found, merged, table_of}
-use Rattle.definitions.proofs.TableLaws.{same_tables, value_at-merged, IsRising-merged, table-append}
+use Rattle.definitions.proofs.TableLaws.{same_tables, either, value_at-append, value_at-merged, IsRising-merged, table-append}
 use Rattle.partition.specs.Parts.{part_number}
 use Rattle.std.proofs.lemmas.List.{get_or-map, length-map}
 use Rattle.sheets.specs.Sheets.{SheetOf}
 use Rattle.sheets.specs.Parts.{in_part, HasParts, AreSheets}
 use Rattle.sheets.specs.United.{end_to_end, united, Apart, tables_of}
 use Rattle.sheets.proofs.PartLaws.{rising-in_part}
-use Rattle.sheets.proofs.UnitedLaws.{either, value_at-append, value_at-united, IsRising-united}
+use Rattle.sheets.proofs.UnitedLaws.{value_at-united, IsRising-united}
 
 module _ {V : Type 0} (parts : ℕ) where
   -- the value of a part's entries at a key
@@ -52,17 +52,14 @@ module _ {V : Type 0} (parts : ℕ) where
       sym pi ∙ pj
 
   none_has : (q : List ℕ) (ts : List (List (List ℕ × V))) → ((j : ℕ) → j < length ts → value_at (slice_index_or ts j []) q ≡ None) → value_at (end_to_end ts) q ≡ None
-  unfolding either
   none_has q [] each = refl
   none_has q (t ∷ ts) each = value_at-append t (end_to_end ts) q ∙ (λ i. either (each 0 (omega arith) i) (none_has q ts (λ j h. each (suc j) (omega (arith, h))) i))
 
   by_value : (a b v : Option V) → a ≡ v → (v ≡ None → b ≡ None) → either a b ≡ v
-  unfolding either
   by_value a b None first rest = (λ i. either (first i) (rest refl i))
   by_value a b (Some x) first rest = ap (λ o. either o b) first
 
   skip_none : (a b v : Option V) → a ≡ None → b ≡ v → either a b ≡ v
-  unfolding either
   skip_none a b v first rest = (λ i. either (first i) (rest i))
 
   no_value : (b : Bool) → cond {A = Option V} b None None ≡ None

@@ -1,29 +1,15 @@
 -- The keys that tie where rising lists are merged are those that stand in both.
 use Rattle.std.proofs.Common.{◌≡◌, ℕ, ◌+◌, true, false, cond, List, [], ◌∷◌, Option, Some, None, refl, sym, ap, ◌∙◌, subst}
-use Rattle.std.proofs.lemmas.Cmp.{nat_list_cmp_total}
-use Rattle.std.specs.Ordering.{eq_by_cmp, is_eq, is_lt, ordering_reverse}
+use Rattle.std.specs.Ordering.{eq_by_cmp, is_eq, is_lt}
 use Rattle.std.specs.FinMap.Entries.{is_sorted, below_all, by_order}
 use Rattle.std.specs.declared.cmp.Ordering.{Ordering}
 use Rattle.std.specs.declared.cmp.Ordering.TheVariants.{Less, Equal, Greater}
 use lib.Dec.{T}
 use Rattle.definitions.specs.Tables.{key_cmp, IsRising, value_at, common_keys}
-use Rattle.definitions.proofs.TableLaws.{tied_keys, first, second, both, passes}
+use Rattle.definitions.proofs.TableLaws.{tied_keys, turned, is_less, below_chain, first, second, both, passes}
 use Rattle.sheets.specs.Sheets.{ties_into, ties}
 
-is_less : (o : Ordering) → T (is_lt o) → o ≡ Less
-is_less Less h = refl
-is_less Equal h = absurd h
-is_less Greater h = absurd h
-
--- the other way round
-turned : (x y : List ℕ) (o : Ordering) → key_cmp x y ≡ o → key_cmp y x ≡ ordering_reverse o
-turned x y o is = nat_list_cmp_total.antisymm y x ∙ ap ordering_reverse is
-
 module _ {V : Type 0} where
-  below_chain : (x y : List ℕ) (es : List (List ℕ × V)) → key_cmp x y ≡ Less → T (below_all key_cmp y es) → T (below_all key_cmp x es)
-  below_chain x y [] lt below = tt
-  below_chain x y (e ∷ es) lt below = both _ _ (subst (λ o. T (is_lt o)) (sym (nat_list_cmp_total.trans x y e.0 lt (is_less _ (first _ _ below)))) tt) (below_chain x y es lt (second _ _ below))
-
   -- a key below all is not there
   absent : (k : List ℕ) (es : List (List ℕ × V)) → T (below_all key_cmp k es) → value_at es k ≡ None
   absent k [] below = refl

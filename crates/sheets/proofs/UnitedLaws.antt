@@ -5,37 +5,20 @@ use Rattle.std.specs.declared.cmp.Ordering.{Ordering}
 use Rattle.std.specs.declared.cmp.Ordering.TheVariants.{Less, Equal, Greater}
 use Rattle.std.specs.Ordering.{eq_by_cmp, is_eq, is_lt}
 use Rattle.std.specs.FinMap.Entries.{below_all}
-use Rattle.std.proofs.lemmas.Cmp.{nat_list_cmp_total, tied_itself}
+use Rattle.std.proofs.lemmas.Cmp.{nat_list_cmp_total}
 use Rattle.std.proofs.lemmas.List.Elements.{All-get_or}
 use Rattle.std.proofs.lemmas.Bool.Decides.{nat_tests}
 use lib.Dec.{T}
 use Rattle.definitions.specs.Tables.{key_cmp, IsRising, value_at}
-use Rattle.definitions.proofs.TableLaws.{tied_keys, is_true, passes, both, first, second, same_tables, value_at-over_keys, IsRising-over_keys}
+use Rattle.definitions.proofs.TableLaws.{tied_keys, eq_itself, is_less, is_true, passes, both, first, second, either, value_at-append, same_tables, value_at-over_keys, IsRising-over_keys}
 use Rattle.sheets.specs.United.{end_to_end, first_value, united, Apart, IsNotAfter}
 
-less : (o : Ordering) → T (is_lt o) → o ≡ Less
-less Less h = refl
-less Equal h = absurd h
-less Greater h = absurd h
-
-is_less : (o : Ordering) → o ≡ Less → T (is_lt o)
-is_less Less e = tt
-is_less Equal e = cc
-is_less Greater e = cc
-
-eq_itself : (k : List ℕ) → eq_by_cmp key_cmp k k ≡ true
-eq_itself k = ap is_eq (tied_itself nat_list_cmp_total k)
-
-unfoldable pub either : {V : Type 0} → Option V → Option V → Option V
-either None b = b
-either (Some a) b = Some a
+lower : (o : Ordering) → o ≡ Less → T (is_lt o)
+lower Less e = tt
+lower Equal e = cc
+lower Greater e = cc
 
 module _ {V : Type 0} where
-  pub value_at-append : (t u : List (List ℕ × V)) (q : List ℕ) → value_at (t ++ u) q ≡ either (value_at t q) (value_at u q)
-  unfolding either
-  value_at-append [] u q = refl
-  value_at-append (e ∷ t) u q = elim (eq_by_cmp key_cmp q e.0) as (λ b. cond b (Some e.1) (value_at (t ++ u) q) ≡ either (cond b (Some e.1) (value_at t q)) (value_at u q)) [ true ↦ refl | false ↦ value_at-append t u q ]
-
   -- the value of the union at a key
   pub value_at-united : (ts : List (List (List ℕ × V))) (q : List ℕ) → value_at (united ts) q ≡ value_at (end_to_end ts) q
   unfolding united
@@ -49,7 +32,7 @@ module _ {V : Type 0} where
   -- a key below all others
   below_values : (x : List ℕ) (t : List (List ℕ × V)) → ((q : List ℕ) → is_some (value_at t q) ≡ true → key_cmp x q ≡ Less) → T (below_all key_cmp x t)
   below_values x [] h = tt
-  below_values x (f ∷ t) h = both _ _ (is_less _ (h f.0 (ap (λ (b : Bool). is_some (cond b (Some f.1) (value_at t f.0))) (eq_itself f.0)))) (below_values x t (λ q s. h q (later q s)))
+  below_values x (f ∷ t) h = both _ _ (lower _ (h f.0 (ap (λ (b : Bool). is_some (cond b (Some f.1) (value_at t f.0))) (eq_itself f.0)))) (below_values x t (λ q s. h q (later q s)))
     where
       later : (q : List ℕ) → is_some (value_at t q) ≡ true → is_some (value_at (f ∷ t) q) ≡ true
       later q s = elim (eq_by_cmp key_cmp q f.0) as (λ b. is_some (cond b (Some f.1) (value_at t q)) ≡ true) [ true ↦ refl | false ↦ s ]
@@ -58,7 +41,7 @@ module _ {V : Type 0} where
   values_below x [] q h s = cc
   values_below x (f ∷ t) q h s =
       elim (eq_by_cmp key_cmp q f.0) as (λ b. eq_by_cmp key_cmp q f.0 ≡ b → is_some (cond b (Some f.1) (value_at t q)) ≡ true → key_cmp x q ≡ Less) [
-        | true ↦ λ tied s. ap (key_cmp x) (tied_keys q f.0 tied) ∙ less _ (first _ _ h)
+        | true ↦ λ tied s. ap (key_cmp x) (tied_keys q f.0 tied) ∙ is_less _ (first _ _ h)
         | false ↦ λ tied s. values_below x t q (second _ _ h) s
       ] refl s
 
@@ -71,7 +54,6 @@ module _ {V : Type 0} where
   below_end x (t ∷ ts) h = below_append x t (end_to_end ts) (h 0 (omega arith)) (below_end x ts (λ j s. h (suc j) (omega (arith, s))))
 
   swap : (b : Bool) (o y : Option V) (v : V) → (b ≡ true → o ≡ None) → either o (cond b (Some v) y) ≡ cond b (Some v) (either o y)
-  unfolding either
   swap true o y v none = ap (λ p. either p (Some v)) (none refl)
   swap false o y v none = refl
 
@@ -95,7 +77,7 @@ module _ {V : Type 0} where
   below_table x [] r n other = tt
   below_table x (f ∷ t) r n other =
       let is : key_cmp x f.0 ≡ Less = by_order' (key_cmp x f.0) refl in
-      both _ _ (is_less _ is) (below_values x t (λ q s. nat_list_cmp_total.trans x f.0 q is (values_below f.0 t q (first _ _ (passes _ r)) s)))
+      both _ _ (lower _ is) (below_values x t (λ q s. nat_list_cmp_total.trans x f.0 q is (values_below f.0 t q (first _ _ (passes _ r)) s)))
     where
       by_order' : (o : Ordering) → key_cmp x f.0 ≡ o → o ≡ Less
       by_order' Less e = refl

@@ -50,7 +50,7 @@ impl<M: Meter> Job for LastLength<M> {
         m: &mut M,
     ) -> Result<(), AllocError> {
         m.map();
-        out.put(alloc, &r[..1], r.len() as u64)
+        out.put(&r[..1], r.len() as u64)
     }
 
     fn combine(&self, _alloc: Global, _a: &u64, b: &u64, m: &mut M) -> Result<u64, AllocError> {

@@ -6,7 +6,7 @@ use Rattle.sheets.proofs.PartUnion.{parts-apart, sheets-parts}
 use Rattle.sheets.proofs.tests.answer_in_parts.Goals as goal
 
 pub answer_of-requires-clause-apart : goal.answer_of-requires-clause-apart
-answer_of-requires-clause-apart g c κs o =
+answer_of-requires-clause-apart g c =
     let s = g.J.Job.setting c.args.job.now in
     let table = table_of (g.J.Job.joined s) (pairs_of (g.J.Job.emits s) c.args.records.now) in
     let roots = c.in_ok-roots.roots.items in
