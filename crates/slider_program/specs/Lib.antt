@@ -1,4 +1,3 @@
 pub mod Words
 pub mod Summaries
 pub mod Program
-pub mod Accepts

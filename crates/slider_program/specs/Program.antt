@@ -1,96 +1,140 @@
--- What a call of the program promises.
-use Rattle.std.specs.Prelude.{◌≡◌, ℕ, List, ◌++◌, Option, option_map, ◌⊎◌}
+-- What a call of the program promises. `Ran`, the last one, goes by cases on what the words of the call ask for.
+use Rattle.std.specs.Prelude.{◌≡◌, ◌≢◌, ℕ, List, ◌++◌, Option, option_map, IsSome, Result, Ok, Err, ◌⊎◌}
 use Rattle.std.specs.declared.option.Option.TheVariants.{Some, None}
+use Rattle.definitions.specs.Limits.{most_script}
 use Rattle.definitions.specs.Outside.{Rose, Told, GainsPrefix}
+use Rattle.slider_io.specs.declared.source.Source as Sources
+use Rattle.slider_io.specs.declared.sink.Sink as Sinks
 use Rattle.record_text.specs.declared.script_fault.Why.{Why}
 use Rattle.record_text.specs.Script.{commands}
+use Rattle.job_laws.specs.declared.job.Job as JobTrait
+use Rattle.job_laws.specs.Meanings.{Meaning, meaning_at}
+use Rattle.job_laws.specs.Rows.{Row}
 use Rattle.window_manager.specs.Windows.{WindowState, empty_window}
-use Rattle.slider_session.specs.Output.{Meaning, ending_of}
-use Rattle.definitions.specs.Limits.{most_script}
+use Rattle.slider_session.specs.Devices.{DeviceView, source_view, sink_view}
+use Rattle.slider_session.specs.Output.{ending_of}
 use Rattle.slider_session.specs.Serving.{Whole, AtFault, OfTaken, WritesPrefix}
 use Rattle.program_words.specs.declared.plan.JobName.{JobName}
 use Rattle.program_words.specs.declared.plan.JobName.TheVariants.{Count, Index, Latest, TopK}
 use Rattle.program_words.specs.declared.plan.Plan.{Plan}
+use Rattle.program_words.specs.declared.plan.Field.{Field}
 use Rattle.program_words.specs.Plans.{kind_of}
+use Rattle.program_words.specs.Usages.{line_for}
 use Rattle.script_generator.specs.Generated.{generated}
 use Rattle.slider_program.specs.Words.{fault_line, end_line}
 use Rattle.slider_program.specs.Summaries.{summary_of}
+
+-- The devices and the meters that a call is handed, whole: what is equal of them is equal in all.
+pub record Outside (S K E M : Type 0) : Type 0 where
+  pub source : S
+  pub out : K
+  pub err : E
+  pub meters : Row M
+
+-- These devices and meters.
+abbrev pub outside : {S K E M : Type 0} → S → K → E → Row M → Outside S K E M
+outside source out err meters = record { source = source; out = out; err = err; meters = meters }
+
+-- What is seen of the devices: the bytes that the source has left, and that `out` and `err` hold, and their counts of faults.
+pub record Seen : Type 0 where
+  pub source : DeviceView
+  pub out : DeviceView
+  pub err : DeviceView
+
+-- What is seen of the devices that a call is handed.
+abbrev pub seen_of : {S K E M : Type 0} → Sources.Ghosts S → Sinks.Ghosts K → Sinks.Ghosts E → Outside S K E M → Seen
+seen_of s k e o = record { source = source_view s o.source; out = sink_view k o.out; err = sink_view e o.err }
+
+-- What the jobs mean that a program is handed.
+pub record Jobs (C I L T : Type 0) : Type 0 where
+  pub count : Meaning C
+  pub index : Meaning I
+  pub latest : Meaning L
+  pub topk : ℕ → Meaning T
+
+-- The meanings of these jobs, of which three have the setting 0, and the last one has the number of members that it keeps.
+abbrev pub jobs_of : {A C B I D L F T M : Type 0} → JobTrait.Ghosts A C M → JobTrait.Ghosts B I M → JobTrait.Ghosts D L M → JobTrait.Ghosts F T M → Jobs C I L T
+jobs_of count index latest topk = record { count = meaning_at count 0; index = meaning_at index 0; latest = meaning_at latest 0; topk = meaning_at topk }
 
 -- The window that a script begins with: an empty one, of the kind that the tree is for.
 abbrev pub first_window : Plan → WindowState
 first_window plan = empty_window (kind_of plan.tree) plan.settings.places
 
--- The script that a plan has generated, where it has a seed.
+-- The script that a plan has generated, if it has a seed.
 abbrev pub generated_by : Plan → Option (List ℕ)
 generated_by plan = option_map (λ seed. generated plan.job plan.tree seed) plan.seed
 
--- What was seen of the devices before a call and after it: the bytes that the source had left, and that `out` and `err`
--- held, and their counts of faults.
-pub record Seen : Type 0 where
-  pub left : Option (List ℕ)
-  pub held : Option (List ℕ)
-  pub said : Option (List ℕ)
-  pub source_faults : ℕ
-  pub out_faults : ℕ
-  pub err_faults : ℕ
-
 -- A line was tried: a prefix of it was gained, and all of it unless the count of faults rose.
-pub record Tries (line : List ℕ) (said now : Option (List ℕ)) (faults later : ℕ) : Type 0 where
-  pub prefix : Told said now (GainsPrefix line)
-  pub whole : (Rose faults later → ⊥) → Told said now (λ old new. new ≡ old ++ line)
+pub record Tries (line : List ℕ) (before now : DeviceView) : Type 0 where
+  pub prefix : Told before.bytes now.bytes (GainsPrefix line)
+  pub whole : (Rose before.faults now.faults → ⊥) → Told before.bytes now.bytes (λ old new. new ≡ old ++ line)
 
--- The words were refused with a line: nothing but `err` was touched.
-pub record Refused (line : List ℕ) (old new : Seen) (status : ℕ) : Type 0 where
-  pub source : (new.left ≡ old.left) × (new.source_faults ≡ old.source_faults)
-  pub out : (new.held ≡ old.held) × (new.out_faults ≡ old.out_faults)
-  pub known : (status ≡ 2) ⊎ (status ≡ 6)
-  pub tried : status ≡ 2 → Tries line old.said new.said old.err_faults new.err_faults
-  pub prefix : Told old.said new.said (GainsPrefix line)
-
--- An output is summed up by a line: what each status says of `out`, which held `before` and holds `now`.
-pub record SumsUp (line : List ℕ) (before now : Option (List ℕ)) (faults later status : ℕ) : Type 0 where
+-- An output is summed up by a line: what each status says of `out`.
+pub record SumsUp (line : List ℕ) (before now : DeviceView) (status : ℕ) : Type 0 where
   -- The line was written.
-  pub done : status ≡ 0 → Told before now (λ old new. new ≡ old ++ line)
+  pub done : status ≡ 0 → Told before.bytes now.bytes (λ old new. new ≡ old ++ line)
   -- A write failed.
-  pub write : status ≡ 5 → Rose faults later
+  pub write : status ≡ 5 → Rose before.faults now.faults
   -- Whatever the status, a prefix of the line was written.
-  pub prefix : Told before now (GainsPrefix line)
-  -- There is no other status; 6 is want of memory.
+  pub prefix : Told before.bytes now.bytes (GainsPrefix line)
+  -- There is no other status; 6 is for memory that ran out.
   pub known : (status ≡ 0) ⊎ (status ≡ 5) ⊎ (status ≡ 6)
 
 module _ {V : Type 0} (j : Meaning V) (w : WindowState) where
-  -- The words were accepted: what each status says of the script that the source had left, of its output over the job and
-  -- from the window on, and of `err`.
+  -- What each status says of the script that the source had left, of its output over the job and from the window on, and
+  -- of `err`.
   pub record ScriptAnswered (old new : Seen) (status : ℕ) : Type 0 where
     -- The source was read to its end, and all was written.
-    pub done : status ≡ 0 → Told old.left new.left (λ script after. Whole j w most_script script after old.held new.held) × (new.said ≡ old.said)
+    pub done : status ≡ 0 → Told old.source.bytes new.source.bytes (λ script after. Whole j w most_script script after old.out.bytes new.out.bytes) × (new.err.bytes ≡ old.err.bytes)
     -- The script has a fault, and all before it was written.
-    pub fault : status ≡ 3 → (line : ℕ) × (why : Why) × Told old.left new.left (λ script after. AtFault j w most_script line why script old.held new.held) × Tries (fault_line line why) old.said new.said old.err_faults new.err_faults
+    pub fault : status ≡ 3 → (line : ℕ) × (why : Why) × Told old.source.bytes new.source.bytes (λ script after. AtFault j w most_script line why script old.out.bytes new.out.bytes) × Tries (fault_line line why) old.err new.err
     -- A read failed, and the output of the bytes taken up to their last LF was written.
-    pub read : status ≡ 4 → Rose old.source_faults new.source_faults × Told old.left new.left (λ script after. OfTaken j w most_script script after old.held new.held) × (new.said ≡ old.said)
+    pub read : status ≡ 4 → Rose old.source.faults new.source.faults × Told old.source.bytes new.source.bytes (λ script after. OfTaken j w most_script script after old.out.bytes new.out.bytes) × (new.err.bytes ≡ old.err.bytes)
     -- A write failed.
-    pub write : status ≡ 5 → Rose old.out_faults new.out_faults × (new.said ≡ old.said)
+    pub write : status ≡ 5 → Rose old.out.faults new.out.faults × (new.err.bytes ≡ old.err.bytes)
     -- Whatever the status, a prefix of the output was written, and of the script's line on `err`.
-    pub prefix : Told old.left new.left (λ script after. WritesPrefix j w most_script script old.held new.held)
-    pub said : Told old.left new.left (λ script after. Told old.said new.said (GainsPrefix (end_line (ending_of j w (commands most_script script)))))
-    -- There is no other status; 6 is want of memory.
+    pub prefix : Told old.source.bytes new.source.bytes (λ script after. WritesPrefix j w most_script script old.out.bytes new.out.bytes)
+    pub said : Told old.source.bytes new.source.bytes (λ script after. Told old.err.bytes new.err.bytes (GainsPrefix (end_line (ending_of j w (commands most_script script)))))
+    -- There is no other status; 6 is for memory that ran out.
     pub known : (status ≡ 0) ⊎ (status ≡ 3) ⊎ (status ≡ 4) ⊎ (status ≡ 5) ⊎ (status ≡ 6)
 
   -- A generated script was summed up: neither the source nor `err` was touched.
   pub record Summed (script : List ℕ) (old new : Seen) (status : ℕ) : Type 0 where
-    pub source : (new.left ≡ old.left) × (new.source_faults ≡ old.source_faults)
-    pub err : (new.said ≡ old.said) × (new.err_faults ≡ old.err_faults)
-    pub sums : SumsUp (summary_of j w script) old.held new.held old.out_faults new.out_faults status
+    pub source : new.source ≡ old.source
+    pub err : new.err ≡ old.err
+    pub sums : SumsUp (summary_of j w script) old.out new.out status
 
   -- What was answered: the script that the source had left, or the summary of a generated one.
   abbrev pub AnsweredBy : Option (List ℕ) → Seen → Seen → ℕ → Type 0
   AnsweredBy None old new status = ScriptAnswered old new status
   AnsweredBy (Some script) old new status = Summed script old new status
 
-module _ {C I L T : Type 0} (w : WindowState) (script : Option (List ℕ)) (count : Meaning C) (index : Meaning I) (latest : Meaning L) (topk : ℕ → Meaning T) (k : ℕ) where
-  -- What was answered from a window on, over the job of a name, of these four; `script` is the generated one, if any.
-  abbrev pub AnsweredFor : JobName → Seen → Seen → ℕ → Type 0
-  AnsweredFor Count old new status = AnsweredBy count w script old new status
-  AnsweredFor Index old new status = AnsweredBy index w script old new status
-  AnsweredFor Latest old new status = AnsweredBy latest w script old new status
-  AnsweredFor TopK old new status = AnsweredBy (topk k) w script old new status
+-- What was answered over the job that a plan names.
+abbrev pub AnsweredFor : {C I L T : Type 0} → Jobs C I L T → JobName → Plan → Seen → Seen → ℕ → Type 0
+AnsweredFor jobs Count plan old new status = AnsweredBy jobs.count (first_window plan) (generated_by plan) old new status
+AnsweredFor jobs Index plan old new status = AnsweredBy jobs.index (first_window plan) (generated_by plan) old new status
+AnsweredFor jobs Latest plan old new status = AnsweredBy jobs.latest (first_window plan) (generated_by plan) old new status
+AnsweredFor jobs TopK plan old new status = AnsweredBy (jobs.topk plan.k) (first_window plan) (generated_by plan) old new status
+
+module _ {S K E M : Type 0} (see : Outside S K E M → Seen) where
+  -- The words are a plan: `says` holds of what is seen of the devices, and of the status.
+  pub record Planned (plan : Plan) (says : Seen → Seen → ℕ → Type 0) (old new : Outside S K E M) (status : ℕ) : Type 0 where
+    pub answered : says (see old) (see new) status
+    -- With a seed, neither the source nor `err` was touched.
+    pub generated : IsSome plan.seed → (new.source ≡ old.source) × (new.err ≡ old.err)
+    -- Nothing was asked of `err` but at a fault of the script, or if memory ran out.
+    pub quiet : status ≢ 3 → status ≢ 6 → new.err ≡ old.err
+
+  -- The words were refused with a line: nothing but `err` was touched.
+  pub record Refused (line : List ℕ) (old new : Outside S K E M) (status : ℕ) : Type 0 where
+    pub source : new.source ≡ old.source
+    pub out : new.out ≡ old.out
+    pub meters : new.meters ≡ old.meters
+    pub known : (status ≡ 2) ⊎ (status ≡ 6)
+    pub tried : status ≡ 2 → Tries line (see old).err (see new).err
+    pub prefix : Told (see old).err.bytes (see new).err.bytes (GainsPrefix line)
+
+  -- What the words ask for was done, or they were refused.
+  abbrev pub Ran : {C I L T : Type 0} → Jobs C I L T → Result Plan Field → Outside S K E M → Outside S K E M → ℕ → Type 0
+  Ran jobs (Ok plan) old new status = Planned plan (AnsweredFor jobs plan.job plan) old new status
+  Ran jobs (Err field) old new status = Refused (line_for field) old new status

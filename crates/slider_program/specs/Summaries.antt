@@ -6,7 +6,8 @@ use Rattle.record_text.specs.declared.command.Command.{Command}
 use Rattle.record_text.specs.declared.command.Command.TheVariants.{Run}
 use Rattle.record_text.specs.Script.{Script, commands}
 use Rattle.window_manager.specs.Windows.{WindowState}
-use Rattle.slider_session.specs.Output.{Meaning, output_of}
+use Rattle.job_laws.specs.Meanings.{Meaning}
+use Rattle.slider_session.specs.Output.{output_of}
 use Rattle.definitions.specs.Limits.{most_script}
 
 -- How many runs a command is.

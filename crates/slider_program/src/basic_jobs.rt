@@ -1,47 +1,56 @@
-//! The jobs that the program hands in.
-ghost use Rattle.std.specs.Prelude.{◌≡◌, ◌≤◌};
-ghost use Rattle.slider_program.specs.Accepts.{count_accepts_records, index_accepts_records, latest_accepts_records, topk_accepts_records};
+//! The jobs that the program hands in, counted by meters of one type.
+ghost use Rattle.std.specs.Prelude.{◌≡◌, refl};
 
-use job_laws::{CountMeter, JobSet};
+use job_laws::{JobSet, Meter};
 use job_topk::TopK;
 use jobs_basic::{Count, Index, Latest};
+use std::marker::PhantomData;
 
-/// The jobs of `jobs_basic` and `job_topk`, counted by `CountMeter`s.
+/// The jobs of `jobs_basic` and `job_topk`, counted by any meter.
 #[derive(Drop)]
-pub struct BasicJobs;
+pub struct BasicJobs<M: Meter> {
+    meter: PhantomData<M>,
+}
 
-impl JobSet for BasicJobs {
-    type Meter = CountMeter;
+impl<M: Meter> BasicJobs<M> {
+    /// The four jobs; they have no state.
+    pub fn new() -> BasicJobs<M> {
+        BasicJobs { meter: PhantomData }
+    }
+}
 
-    type Count = Count<CountMeter>;
+impl<M: Meter + Send + Sync> JobSet for BasicJobs<M> {
+    type Meter = M;
 
-    type Index = Index<CountMeter>;
+    type Count = Count<M>;
 
-    type TopK = TopK<CountMeter>;
+    type Index = Index<M>;
 
-    type Latest = Latest<CountMeter>;
+    type TopK = TopK<M>;
 
-    fn count(&self) -> Count<CountMeter> {
-        Count::new()
+    type Latest = Latest<M>;
+
+    fn count(&self) -> Count<M> {
+        Count::<M>::new()
     }
 
-    fn index(&self) -> Index<CountMeter> {
-        Index::new()
+    fn index(&self) -> Index<M> {
+        Index::<M>::new()
     }
 
-    fn topk(&self, k: u32) -> TopK<CountMeter> {
-        TopK::new(k).unwrap()
+    fn topk(&self, k: u32) -> TopK<M> {
+        TopK::<M>::new(k).unwrap()
     }
 
-    fn latest(&self) -> Latest<CountMeter> {
-        Latest::new()
+    fn latest(&self) -> Latest<M> {
+        Latest::<M>::new()
     }
 
-    ghost count_accepts = { λ r fits. count_accepts_records r fits };
+    ghost count_accepts = { λ r. refl };
 
-    ghost index_accepts = { λ r fits. index_accepts_records r fits };
+    ghost index_accepts = { λ r. refl };
 
-    ghost topk_accepts = { λ k r least most fits. topk_accepts_records r fits };
+    ghost topk_accepts = { λ k r least most. refl };
 
-    ghost latest_accepts = { λ r fits. latest_accepts_records r fits };
+    ghost latest_accepts = { λ r. refl };
 }

@@ -1,18 +1,16 @@
-//! The top call.
-ghost use Rattle.std.specs.Prelude.{◌≡◌, ◌⊎◌, ◌+◌, ℕ, List, length, map, string_bytes, IsSome, Ok, Err};
+//! The top call: from the words of a call and its devices to the status that it ends with. The last function carries the
+//! promises.
+ghost use Rattle.std.specs.Prelude.{◌≡◌, ◌≢◌, ◌⊎◌, map, string_bytes};
 ghost use Rattle.definitions.specs.Outside.{Told, GainsPrefix};
+ghost use Rattle.job_laws.specs.Meanings.{meaning_of};
+ghost use Rattle.job_laws.specs.Rows.{RowRose};
 ghost use Rattle.window_manager.specs.Windows.{empty_window};
-ghost use Rattle.slider_session.specs.Output.{meaning};
-ghost use Rattle.slider_session.specs.Serving.{FitsMeters};
-ghost use Rattle.slider_session.specs.Meters.{MetersRose};
 ghost use Rattle.run_settings.specs.Settings.{AreWithin};
+ghost use Rattle.slider_session.specs.Devices.{sink_view};
 ghost use Rattle.program_words.specs.Plans.{IsWithin, plan_of};
-ghost use Rattle.program_words.specs.Usages.{line_for};
 ghost use Rattle.slider_program.specs.Words.{fault_line};
-ghost use Rattle.slider_program.specs.Program.{Tries, Refused, SumsUp, ScriptAnswered, AnsweredBy, AnsweredFor, first_window, generated_by};
 ghost use Rattle.slider_program.specs.Summaries.{summary_of};
-ghost use Rattle.program_words.specs.declared.plan.Plan.{Plan};
-ghost use Rattle.program_words.specs.declared.plan.Field.{Field};
+ghost use Rattle.slider_program.specs.Program.{Tries, SumsUp, ScriptAnswered, AnsweredBy, AnsweredFor, Planned, Ran, first_window, generated_by, jobs_of, outside, seen_of};
 
 use crate::summary::summary_of;
 use crate::words::line_of_fault;
@@ -31,7 +29,7 @@ use std::thread::Threads;
 /// want of memory gives 6.
 fn status_after<E: Sink>(err: &mut E, line: &[u8], status: u8) -> u8
     ensures status { (result ≡ status) ⊎ (result ≡ 6) }
-    ensures tried { (result ≡ 6 → ⊥) → Tries line.now (E.held err.old) (E.held err.new) (E.faults err.old) (E.faults err.new) }
+    ensures tried { result ≢ 6 → Tries line.now (sink_view E.Sink err.old) (sink_view E.Sink err.new) }
     ensures prefix { Told (E.held err.old) (E.held err.new) (GainsPrefix line.now) }
 {
     match put_all(err, line) {
@@ -44,7 +42,7 @@ fn status_after<E: Sink>(err: &mut E, line: &[u8], status: u8) -> u8
 /// Says a script's fault on `err`.
 fn status_of_fault<E: Sink>(alloc: Global, err: &mut E, fault: ScriptFault) -> u8
     ensures status { (result ≡ 3) ⊎ (result ≡ 6) }
-    ensures tried { result ≡ 3 → Tries (fault_line fault.line fault.why) (E.held err.old) (E.held err.new) (E.faults err.old) (E.faults err.new) }
+    ensures tried { result ≡ 3 → Tries (fault_line fault.line fault.why) (sink_view E.Sink err.old) (sink_view E.Sink err.new) }
     ensures prefix { Told (E.held err.old) (E.held err.new) (GainsPrefix (fault_line fault.line fault.why)) }
 {
     match line_of_fault(alloc, fault) {
@@ -64,14 +62,11 @@ fn serve_script<J: Job, S: Source, K: Sink, E: Sink>(
     err: &mut E,
     meters: &mut MeterRow<J::Meter>,
 ) -> u8
-    requires settings { AreWithin settings }
-    requires meters { FitsMeters meters.old.lanes.items meters.old.parts.items }
-    ensures answered { ScriptAnswered (meaning (J.accepts (J.setting job)) (J.emits (J.setting job)) (J.joined (J.setting job)) (J.text (J.setting job))) (empty_window kind settings.places)
-        record { left = S.left source.old; held = K.held out.old; said = E.held err.old; source_faults = S.faults source.old; out_faults = K.faults out.old; err_faults = E.faults err.old }
-        record { left = S.left source.new; held = K.held out.new; said = E.held err.new; source_faults = S.faults source.new; out_faults = K.faults out.new; err_faults = E.faults err.new } result }
-    ensures quiet { (result ≡ 3 → ⊥) → (result ≡ 6 → ⊥) → err.new ≡ err.old }
-    ensures meters { FitsMeters meters.new.lanes.items meters.new.parts.items }
-    ensures counted { MetersRose J.Meter.maps J.Meter.merges J.Meter.joins meters.old.lanes.items meters.old.parts.items meters.new.lanes.items meters.new.parts.items }
+    requires { AreWithin settings }
+    ensures answered { ScriptAnswered (meaning_of J.Job job) (empty_window kind settings.places)
+        (seen_of S.Source K.Sink E.Sink (outside source.old out.old err.old meters.old)) (seen_of S.Source K.Sink E.Sink (outside source.new out.new err.new meters.new)) result }
+    ensures quiet { result ≢ 3 → result ≢ 6 → err.new ≡ err.old }
+    ensures counted { RowRose J.Meter.counts meters.old meters.new }
 {
     match serve(alloc, job, settings, kind, source, out, meters) {
         Ok(()) => 0,
@@ -84,7 +79,7 @@ fn serve_script<J: Job, S: Source, K: Sink, E: Sink>(
 
 /// Writes the line of a summary, and answers the status.
 fn status_of_summary<K: Sink>(out: &mut K, line: &[u8]) -> u8
-    ensures { SumsUp line.now (K.held out.old) (K.held out.new) (K.faults out.old) (K.faults out.new) result }
+    ensures { SumsUp line.now (sink_view K.Sink out.old) (sink_view K.Sink out.new) result }
 {
     match put_all(out, line) {
         Ok(()) => 0,
@@ -103,12 +98,9 @@ fn sum_up<J: Job, K: Sink>(
     out: &mut K,
     meters: &mut MeterRow<J::Meter>,
 ) -> u8
-    requires settings { AreWithin settings }
-    requires meters { FitsMeters meters.old.lanes.items meters.old.parts.items }
-    ensures summed { SumsUp (summary_of (meaning (J.accepts (J.setting job)) (J.emits (J.setting job)) (J.joined (J.setting job)) (J.text (J.setting job))) (empty_window kind settings.places) script.items)
-        (K.held out.old) (K.held out.new) (K.faults out.old) (K.faults out.new) result }
-    ensures meters { FitsMeters meters.new.lanes.items meters.new.parts.items }
-    ensures counted { MetersRose J.Meter.maps J.Meter.merges J.Meter.joins meters.old.lanes.items meters.old.parts.items meters.new.lanes.items meters.new.parts.items }
+    requires { AreWithin settings }
+    ensures summed { SumsUp (summary_of (meaning_of J.Job job) (empty_window kind settings.places) script.items) (sink_view K.Sink out.old) (sink_view K.Sink out.new) result }
+    ensures counted { RowRose J.Meter.counts meters.old meters.new }
 {
     match summary_of(alloc, job, settings, kind, script, meters) {
         Ok(line) => status_of_summary(out, line.as_bytes()),
@@ -126,15 +118,10 @@ fn run_job<J: Job, S: Source, K: Sink, E: Sink>(
     err: &mut E,
     meters: &mut MeterRow<J::Meter>,
 ) -> u8
-    requires within { IsWithin plan }
-    requires meters { FitsMeters meters.old.lanes.items meters.old.parts.items }
-    ensures answered { AnsweredBy (meaning (J.accepts (J.setting job)) (J.emits (J.setting job)) (J.joined (J.setting job)) (J.text (J.setting job))) (first_window plan) (generated_by plan)
-        record { left = S.left source.old; held = K.held out.old; said = E.held err.old; source_faults = S.faults source.old; out_faults = K.faults out.old; err_faults = E.faults err.old }
-        record { left = S.left source.new; held = K.held out.new; said = E.held err.new; source_faults = S.faults source.new; out_faults = K.faults out.new; err_faults = E.faults err.new } result }
-    ensures untouched { IsSome plan.seed → (source.new ≡ source.old) × (err.new ≡ err.old) }
-    ensures quiet { (result ≡ 3 → ⊥) → (result ≡ 6 → ⊥) → err.new ≡ err.old }
-    ensures meters { FitsMeters meters.new.lanes.items meters.new.parts.items }
-    ensures counted { MetersRose J.Meter.maps J.Meter.merges J.Meter.joins meters.old.lanes.items meters.old.parts.items meters.new.lanes.items meters.new.parts.items }
+    requires { IsWithin plan }
+    ensures ran { Planned (seen_of S.Source K.Sink E.Sink) plan (AnsweredBy (meaning_of J.Job job) (first_window plan) (generated_by plan))
+        (outside source.old out.old err.old meters.old) (outside source.new out.new err.new meters.new) result }
+    ensures counted { RowRose J.Meter.counts meters.old meters.new }
 {
     let kind = plan.tree.kind();
     let Some(seed) = plan.seed else {
@@ -156,19 +143,10 @@ fn run_plan<S: Source, K: Sink, E: Sink, B: JobSet>(
     err: &mut E,
     meters: &mut MeterRow<B::Meter>,
 ) -> u8
-    requires within { IsWithin plan }
-    requires meters { FitsMeters meters.old.lanes.items meters.old.parts.items }
-    ensures answered { AnsweredFor (first_window plan) (generated_by plan)
-        (meaning (B.Count.accepts 0) (B.Count.emits 0) (B.Count.joined 0) (B.Count.text 0))
-        (meaning (B.Index.accepts 0) (B.Index.emits 0) (B.Index.joined 0) (B.Index.text 0))
-        (meaning (B.Latest.accepts 0) (B.Latest.emits 0) (B.Latest.joined 0) (B.Latest.text 0))
-        (λ k. meaning (B.TopK.accepts k) (B.TopK.emits k) (B.TopK.joined k) (B.TopK.text k)) plan.k plan.job
-        record { left = S.left source.old; held = K.held out.old; said = E.held err.old; source_faults = S.faults source.old; out_faults = K.faults out.old; err_faults = E.faults err.old }
-        record { left = S.left source.new; held = K.held out.new; said = E.held err.new; source_faults = S.faults source.new; out_faults = K.faults out.new; err_faults = E.faults err.new } result }
-    ensures untouched { IsSome plan.seed → (source.new ≡ source.old) × (err.new ≡ err.old) }
-    ensures quiet { (result ≡ 3 → ⊥) → (result ≡ 6 → ⊥) → err.new ≡ err.old }
-    ensures meters { FitsMeters meters.new.lanes.items meters.new.parts.items }
-    ensures counted { MetersRose B.Meter.maps B.Meter.merges B.Meter.joins meters.old.lanes.items meters.old.parts.items meters.new.lanes.items meters.new.parts.items }
+    requires { IsWithin plan }
+    ensures ran { Planned (seen_of S.Source K.Sink E.Sink) plan (AnsweredFor (jobs_of B.Count.Job B.Index.Job B.Latest.Job B.TopK.Job) plan.job plan)
+        (outside source.old out.old err.old meters.old) (outside source.new out.new err.new meters.new) result }
+    ensures counted { RowRose B.Meter.counts meters.old meters.new }
 {
     match plan.job {
         JobName::Count => run_job(alloc, jobs.count(), plan, source, out, err, meters),
@@ -194,22 +172,9 @@ pub fn run_program<Q: Threads + Wait + Sync, S: Source, K: Sink, E: Sink, B: Job
     meters: &mut MeterRow<B::Meter>,
     _gate: &G,
 ) -> u8
-    requires meters { FitsMeters meters.old.lanes.items meters.old.parts.items }
-    ensures refused { (field : Field) → plan_of (map string_bytes words.now) ≡ Err field → Refused (line_for field)
-        record { left = S.left source.old; held = K.held out.old; said = E.held err.old; source_faults = S.faults source.old; out_faults = K.faults out.old; err_faults = E.faults err.old }
-        record { left = S.left source.new; held = K.held out.new; said = E.held err.new; source_faults = S.faults source.new; out_faults = K.faults out.new; err_faults = E.faults err.new } result }
-    ensures untouched { (field : Field) → plan_of (map string_bytes words.now) ≡ Err field → (meters.new ≡ meters.old) × (source.new ≡ source.old) × (out.new ≡ out.old) }
-    ensures answered { (plan : Plan) → plan_of (map string_bytes words.now) ≡ Ok plan → AnsweredFor (first_window plan) (generated_by plan)
-        (meaning (B.Count.accepts 0) (B.Count.emits 0) (B.Count.joined 0) (B.Count.text 0))
-        (meaning (B.Index.accepts 0) (B.Index.emits 0) (B.Index.joined 0) (B.Index.text 0))
-        (meaning (B.Latest.accepts 0) (B.Latest.emits 0) (B.Latest.joined 0) (B.Latest.text 0))
-        (λ k. meaning (B.TopK.accepts k) (B.TopK.emits k) (B.TopK.joined k) (B.TopK.text k)) plan.k plan.job
-        record { left = S.left source.old; held = K.held out.old; said = E.held err.old; source_faults = S.faults source.old; out_faults = K.faults out.old; err_faults = E.faults err.old }
-        record { left = S.left source.new; held = K.held out.new; said = E.held err.new; source_faults = S.faults source.new; out_faults = K.faults out.new; err_faults = E.faults err.new } result }
-    ensures generated { (plan : Plan) → plan_of (map string_bytes words.now) ≡ Ok plan → IsSome plan.seed → (source.new ≡ source.old) × (err.new ≡ err.old) }
-    ensures quiet { (plan : Plan) → plan_of (map string_bytes words.now) ≡ Ok plan → (result ≡ 3 → ⊥) → (result ≡ 6 → ⊥) → err.new ≡ err.old }
-    ensures meters { FitsMeters meters.new.lanes.items meters.new.parts.items }
-    ensures counted { MetersRose B.Meter.maps B.Meter.merges B.Meter.joins meters.old.lanes.items meters.old.parts.items meters.new.lanes.items meters.new.parts.items }
+    ensures ran { Ran (seen_of S.Source K.Sink E.Sink) (jobs_of B.Count.Job B.Index.Job B.Latest.Job B.TopK.Job) (plan_of (map string_bytes words.now))
+        (outside source.old out.old err.old meters.old) (outside source.new out.new err.new meters.new) result }
+    ensures counted { RowRose B.Meter.counts meters.old meters.new }
 {
     match read_words(alloc, words) {
         Ok(plan) => run_plan(alloc, plan, jobs, source, out, err, meters),

@@ -1,12 +1,11 @@
 //! The line that sums up what is written for a generated script.
 ghost use Rattle.std.specs.Prelude.{◌≡◌, IfOk, string_bytes};
+ghost use Rattle.definitions.specs.Limits.{most_script};
 ghost use Rattle.definitions.specs.Outside.{Told};
 ghost use Rattle.record_text.specs.Script.{commands};
+ghost use Rattle.job_laws.specs.Meanings.{meaning_of};
+ghost use Rattle.job_laws.specs.Rows.{RowRose};
 ghost use Rattle.window_manager.specs.Windows.{empty_window};
-ghost use Rattle.slider_session.specs.Output.{meaning};
-ghost use Rattle.slider_session.specs.Meters.{MetersRose};
-ghost use Rattle.definitions.specs.Limits.{most_script};
-ghost use Rattle.slider_session.specs.Serving.{FitsMeters};
 ghost use Rattle.run_settings.specs.Settings.{AreWithin};
 ghost use Rattle.slider_program.specs.Summaries.{runs_in, runs_of, summary_line, summary_of};
 
@@ -69,11 +68,9 @@ pub fn summary_of<J: Job>(
     script: Vec<u8>,
     meters: &mut MeterRow<J::Meter>,
 ) -> Result<String, AllocError>
-    requires settings { AreWithin settings }
-    requires meters { FitsMeters meters.old.lanes.items meters.old.parts.items }
-    ensures summary { IfOk result (λ line. string_bytes line ≡ summary_of (meaning (J.accepts (J.setting job)) (J.emits (J.setting job)) (J.joined (J.setting job)) (J.text (J.setting job))) (empty_window kind settings.places) script.items) }
-    ensures meters { FitsMeters meters.new.lanes.items meters.new.parts.items }
-    ensures counted { MetersRose J.Meter.maps J.Meter.merges J.Meter.joins meters.old.lanes.items meters.old.parts.items meters.new.lanes.items meters.new.parts.items }
+    requires { AreWithin settings }
+    ensures summary { IfOk result (λ line. string_bytes line ≡ summary_of (meaning_of J.Job job) (empty_window kind settings.places) script.items) }
+    ensures counted { RowRose J.Meter.counts meters.old meters.new }
 {
     let mut first = SureSource::new(Vec::from_slice(alloc, script.as_slice())?);
     let Ok(runs) = count_runs(alloc, &mut first) else {

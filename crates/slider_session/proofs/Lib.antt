@@ -3,4 +3,3 @@ pub mod Tables
 pub mod PartRoots
 pub mod Stepping
 pub mod Walks
-pub mod MeterLaws

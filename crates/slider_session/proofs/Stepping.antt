@@ -2,7 +2,7 @@
 use Rattle.std.proofs.Common.{◌≡◌, ◌≢◌, ℕ, ◌+◌, ◌≤◌, List, [], ◌++◌, refl, sym, ap, ◌∙◌, subst, append-nil, append_assoc, inl, inr, arith}
 use Rattle.std.specs.Prelude.{Option, Result, Ok, Err}
 use Rattle.std.specs.declared.option.Option.TheVariants.{Some, None}
-use Rattle.definitions.specs.Outside.{Told, IsPrefix, GainsPrefix}
+use Rattle.definitions.specs.Outside.{Rose, Told, IsPrefix, GainsPrefix}
 use Rattle.definitions.proofs.ToldBytes.{told_same}
 use Rattle.record_text.specs.declared.command.Command.{Command}
 use Rattle.record_text.specs.declared.command.Command.TheVariants.{Bucket, Drop, Late, File, Remove, Edit, Load, Run}
@@ -10,8 +10,10 @@ use Rattle.record_text.specs.declared.script_fault.ScriptFault.{ScriptFault}
 use Rattle.record_text.specs.Script.{Ending, Faulty}
 use Rattle.window_manager.specs.Windows.{WindowState, window_after, refusal_of}
 use Rattle.window_manager.specs.Slides.{Slid, slid_after}
-use Rattle.slider_session.specs.Output.{Meaning, Outcome, after_bytes, unless_refused, on_command}
-use Rattle.slider_session.specs.Calls.{SessionView, state_of, accepted_of, Changes, AnswersRun, Steps, next_piece}
+use Rattle.job_laws.specs.Meanings.{Meaning}
+use Rattle.slider_session.specs.Devices.{DeviceView}
+use Rattle.slider_session.specs.Output.{IsOfScript, Outcome, after_bytes, unless_refused, on_command}
+use Rattle.slider_session.specs.Calls.{SessionView, state_of, accepted_of, Changes, RunAnswered, Steps, next_piece}
 use Rattle.slider_session.specs.declared.halt.Halt.{Halt}
 use Rattle.slider_session.specs.declared.halt.Halt.TheVariants as Halts
 
@@ -40,13 +42,13 @@ module _ {V : Type 0} (j : Meaning V) (old new : SessionView) (c : Command) (lin
     pub ends : (go : Going) → on_command j (old.runs + 1) (state_of old) c line go ≡ ([], Faulty fault.line fault.why)
     pub unwritten : now ≡ before
 
-  -- what a step comes to
-  abbrev pub ComesTo : Result (Unit {0}) Halt → Type 0
-  ComesTo (Ok done) = Goes
-  ComesTo (Err (Halts.Script fault)) = IsRefused fault
-  ComesTo (Err Halts.Read) = ⊥
-  ComesTo (Err Halts.Write) = IsCut
-  ComesTo (Err Halts.Mem) = IsCut
+-- what a step comes to, over what was seen of the sink before and after it
+abbrev pub ComesTo : {V : Type 0} → Meaning V → SessionView → SessionView → Command → ℕ → DeviceView → DeviceView → Result (Unit {0}) Halt → Type 0
+ComesTo j old new c line before now (Ok done) = Goes j old new c line before.bytes now.bytes
+ComesTo j old new c line before now (Err (Halts.Script fault)) = IsRefused j old new c line before.bytes now.bytes fault × IsOfScript fault.why
+ComesTo j old new c line before now (Err Halts.Read) = ⊥
+ComesTo j old new c line before now (Err Halts.Write) = IsCut j old new c line before.bytes now.bytes × Rose before.faults now.faults
+ComesTo j old new c line before now (Err Halts.Mem) = IsCut j old new c line before.bytes now.bytes
 
 -- nothing was written
 unwritten : (before now : Option (List ℕ)) → now ≡ before → Told before now (λ bytes more. more ≡ bytes ++ [])
@@ -63,13 +65,20 @@ one_more w (Edit at del ins) s = omega arith
 one_more w (Load records) s = omega arith
 one_more w Run s = omega arith
 
-module _ {V : Type 0} (j : Meaning V) (old new : SessionView) (line : ℕ) (before now : Option (List ℕ)) where
+-- a prefix of a piece was written, as far as it is told
+gained : (all : List ℕ) (before now : Option (List ℕ)) → Told before now (GainsPrefix all) → (gain : List ℕ) × IsPrefix gain all × Told before now (λ bytes more. more ≡ bytes ++ gain)
+gained all None None t = ([], (all, refl), tt)
+gained all None (Some y) t = absurd t
+gained all (Some x) None t = absurd t
+gained all (Some x) (Some y) t = (t.0, t.1, t.2)
+
+module _ {V : Type 0} (j : Meaning V) (old new : SessionView) (line : ℕ) (before now : DeviceView) where
   -- the window's command, where `on_command` is the window's
   module _ (c : Command) (windows : (go : Going) → on_command j (old.runs + 1) (state_of old) c line go ≡ unless_refused (refusal_of j.accepts (state_of old) c) line (go (old.runs + 1) (window_after (state_of old) c))) where
     pub change_comes : (result : Result (Unit {0}) Halt) → Changes j.accepts old new c line result → now ≡ before → ComesTo j old new c line before now result
     change_comes (Ok done) a same = record {
       gain = [];
-      written = unwritten before now same;
+      written = unwritten before.bytes now.bytes (ap (λ (d : DeviceView). d.bytes) same);
       goes = λ go. windows go
           ∙ ap (λ o. unless_refused o line (go (old.runs + 1) (window_after (state_of old) c))) a.0
           ∙ (λ i. go (sym (ap (λ (h : SessionView). h.runs) a.2) i + 1) (sym a.1.window i));
@@ -77,30 +86,27 @@ module _ {V : Type 0} (j : Meaning V) (old new : SessionView) (line : ℕ) (befo
       accepted = subst (λ (s : Slid). s.accepted ≤ accepted_of old + 1) (sym a.1.slid) (one_more (state_of old) c old.window.slid);
       setting = ap (λ (h : SessionView). h.setting) a.2;
     }
-    change_comes (Err (Halts.Script fault)) a same = record {
-      ends = λ go. windows go
-          ∙ ap (λ o. unless_refused o line (go (old.runs + 1) (window_after (state_of old) c))) a.1
-          ∙ ap (λ (e : Ending). ([], e)) a.2;
-      unwritten = same;
-    }
+    change_comes (Err (Halts.Script fault)) a same = (
+      record {
+        ends = λ go. windows go
+            ∙ ap (λ o. unless_refused o line (go (old.runs + 1) (window_after (state_of old) c))) a.1
+            ∙ ap (λ (e : Ending). ([], e)) a.2;
+        unwritten = ap (λ (d : DeviceView). d.bytes) same;
+      },
+      a.4,
+    )
     change_comes (Err Halts.Read) a same = absurd a
     change_comes (Err Halts.Write) a same = absurd a
     change_comes (Err Halts.Mem) a same = record {
       gain = [];
-      written = unwritten before now same;
+      written = unwritten before.bytes now.bytes (ap (λ (d : DeviceView). d.bytes) same);
       prefix = λ go. ((on_command j (old.runs + 1) (state_of old) c line go).0, refl);
     }
 
-  -- a prefix of the next piece was written, as far as it is told
-  gained : (all : List ℕ) (before now : Option (List ℕ)) → Told before now (GainsPrefix all) → (gain : List ℕ) × IsPrefix gain all × Told before now (λ bytes more. more ≡ bytes ++ gain)
-  gained all None None t = ([], (all, refl), tt)
-  gained all None (Some y) t = absurd t
-  gained all (Some x) None t = absurd t
-  gained all (Some x) (Some y) t = (t.0, t.1, t.2)
-
-  cut_in_piece : Told before now (GainsPrefix (next_piece j old)) → IsCut j old new Run line before now
+  -- a prefix of the next piece was written
+  cut_in_piece : Told before.bytes now.bytes (GainsPrefix (next_piece j old)) → IsCut j old new Run line before.bytes now.bytes
   cut_in_piece t =
-      let cut = gained (next_piece j old) before now t in
+      let cut = gained (next_piece j old) before.bytes now.bytes t in
       record {
         gain = cut.0;
         written = cut.2;
@@ -110,7 +116,7 @@ module _ {V : Type 0} (j : Meaning V) (old new : SessionView) (line : ℕ) (befo
         );
       }
 
-  pub answer_comes : (result : Result (Unit {0}) Halt) → AnswersRun j old new before now result → ComesTo j old new Run line before now result
+  pub answer_comes : (result : Result (Unit {0}) Halt) → RunAnswered j old new before now result → ComesTo j old new Run line before now result
   answer_comes (Ok done) a = record {
     gain = next_piece j old;
     written = a.1;
@@ -121,10 +127,10 @@ module _ {V : Type 0} (j : Meaning V) (old new : SessionView) (line : ℕ) (befo
   }
   answer_comes (Err (Halts.Script fault)) a = absurd a
   answer_comes (Err Halts.Read) a = absurd a
-  answer_comes (Err Halts.Write) a = cut_in_piece a.1
+  answer_comes (Err Halts.Write) a = (cut_in_piece a.1, a.2)
   answer_comes (Err Halts.Mem) (inl a) = record {
     gain = [];
-    written = unwritten before now a.1;
+    written = unwritten before.bytes now.bytes a.1;
     prefix = λ go. ((on_command j (old.runs + 1) (state_of old) Run line go).0, refl);
   }
   answer_comes (Err Halts.Mem) (inr a) = cut_in_piece a.1
@@ -140,8 +146,12 @@ not_run j i w (Edit at del ins) line go other = refl
 not_run j i w (Load records) line go other = refl
 not_run j i w Run line go other = absurd (other refl)
 
+-- a sink that was left alone has as many faults
+as_before : (before now : DeviceView) → now ≡ before → before.faults ≤ now.faults
+as_before before now same = let faults = ap (λ (d : DeviceView). d.faults) same in omega (arith, faults)
+
 -- what each step comes to
-pub step_comes : {V : Type 0} (j : Meaning V) (old new : SessionView) (c : Command) (line : ℕ) (before now : Option (List ℕ)) (result : Result (Unit {0}) Halt) → Steps j old new c line before now result → ComesTo j old new c line before now result
+pub step_comes : {V : Type 0} (j : Meaning V) (old new : SessionView) (c : Command) (line : ℕ) (before now : DeviceView) (result : Result (Unit {0}) Halt) → Steps j old new c line before now result → ComesTo j old new c line before now result
 step_comes j old new (Bucket records) line before now result s = change_comes j old new line before now (Bucket records) (λ go. refl) result s.0 s.1
 step_comes j old new (Drop n) line before now result s = change_comes j old new line before now (Drop n) (λ go. refl) result s.0 s.1
 step_comes j old new (Late place more) line before now result s = change_comes j old new line before now (Late place more) (λ go. refl) result s.0 s.1
@@ -149,4 +159,15 @@ step_comes j old new (File name) line before now result s = change_comes j old n
 step_comes j old new (Remove name) line before now result s = change_comes j old new line before now (Remove name) (λ go. refl) result s.0 s.1
 step_comes j old new (Edit at del ins) line before now result s = change_comes j old new line before now (Edit at del ins) (λ go. refl) result s.0 s.1
 step_comes j old new (Load records) line before now result s = change_comes j old new line before now (Load records) (λ go. refl) result s.0 s.1
-step_comes j old new Run line before now result s = answer_comes j old new line before now result s
+step_comes j old new Run line before now result s = answer_comes j old new line before now result s.0
+
+-- a step leaves the sink's count of faults, or raises it
+pub step_later : {V : Type 0} (j : Meaning V) (old new : SessionView) (c : Command) (line : ℕ) (before now : DeviceView) (result : Result (Unit {0}) Halt) → Steps j old new c line before now result → before.faults ≤ now.faults
+step_later j old new (Bucket records) line before now result s = as_before before now s.1
+step_later j old new (Drop n) line before now result s = as_before before now s.1
+step_later j old new (Late place more) line before now result s = as_before before now s.1
+step_later j old new (File name) line before now result s = as_before before now s.1
+step_later j old new (Remove name) line before now result s = as_before before now s.1
+step_later j old new (Edit at del ins) line before now result s = as_before before now s.1
+step_later j old new (Load records) line before now result s = as_before before now s.1
+step_later j old new Run line before now result s = s.1

@@ -8,12 +8,13 @@ use Rattle.std.specs.Ordering.{eq_by_cmp, is_eq}
 use Rattle.std.proofs.lemmas.Cmp.{nat_list_cmp_total, tied_itself}
 use Rattle.definitions.specs.Tables.{key_cmp, value_at, values_with, joined_all, reduced, entry_of, tabulate, keys_of, table_of, merged, HasGoodValues, IsGoodJoin}
 use Rattle.definitions.specs.Answer.{pairs_of, lines_of}
-use Rattle.definitions.proofs.TableLaws.{table-append, listed-keys}
+use Rattle.definitions.proofs.TableLaws.{eq_itself, table-append, listed-keys}
 use Rattle.definitions.proofs.AnswerLaws.{pairs_of-append}
 use Rattle.marker_chunker.specs.Cuts.{joined}
 use Rattle.window_manager.specs.Windows.{Leaf, WindowState, present}
-use Rattle.slider_session.specs.Output.{Meaning, header, piece}
-use Rattle.slider_session.specs.Accepted.{AllAccepted}
+use Rattle.job_laws.specs.Meanings.{Meaning, AllAccepted}
+use Rattle.slider_session.specs.Merging.{with_records}
+use Rattle.slider_session.specs.Output.{header, piece}
 use Rattle.slider_session.proofs.Accepted.{records_good, joined_accepted}
 
 -- one leaf more
@@ -38,9 +39,6 @@ size_within (leaf ∷ leaves) (suc i) =
     omega (arith, rest, some, all)
 
 module _ {V : Type 0} (join : V → V → V) where
-  eq_itself : (k : List ℕ) → eq_by_cmp key_cmp k k ≡ true
-  eq_itself k = ap is_eq (tied_itself nat_list_cmp_total k)
-
   full : (f : List ℕ → Option V) (ks : List (List ℕ)) → ((q : List ℕ) → list_any (eq_by_cmp key_cmp q) ks ≡ true → is_some (f q) ≡ true) → length (tabulate f ks) ≡ length ks
   full f [] h = refl
   full f (k ∷ ks) h = entry (f k) refl (h k (ap (λ (b : Bool). b || list_any (eq_by_cmp key_cmp k) ks) (eq_itself k))) (full f ks (λ q is. h q (later (eq_by_cmp key_cmp q k) (list_any (eq_by_cmp key_cmp q) ks) is)))
@@ -67,14 +65,14 @@ module _ {V : Type 0} (join : V → V → V) where
 
 module _ {V : Type 0} (j : Meaning V) where
   -- the table of the leaves before a place, merged with that of the leaf at it
-  pub leaf_more : (good : V → Type 0) → IsGoodJoin good j.joined → ((r : List ℕ) → IsTrue (j.accepts r) → HasGoodValues good (j.emits r)) → (leaves : List Leaf) (i : ℕ) (d : Leaf) → i < length leaves → All (AllAccepted j.accepts) leaves
-      → merged j.joined (table_of j.joined (pairs_of j.emits (joined (take i leaves)))) (table_of j.joined (pairs_of j.emits (slice_index_or leaves i d))) ≡ table_of j.joined (pairs_of j.emits (joined (take (i + 1) leaves)))
+  pub leaf_more : (good : V → Type 0) → IsGoodJoin good j.joined → ((r : List ℕ) → IsTrue (j.accepts r) → HasGoodValues good (j.emits r)) → (leaves : List Leaf) (i : ℕ) (d : Leaf) → i < length leaves → All (AllAccepted j) leaves
+      → with_records j (table_of j.joined (pairs_of j.emits (joined (take i leaves)))) (slice_index_or leaves i d) ≡ table_of j.joined (pairs_of j.emits (joined (take (i + 1) leaves)))
   leaf_more good laws each leaves i d within all =
       let before = joined (take i leaves) in
       let leaf = slice_index_or leaves i d in
       sym (table-append laws (pairs_of j.emits before) (pairs_of j.emits leaf)
-      (records_good j.accepts j.emits good each before (joined_accepted j.accepts (take i leaves) (All-take (AllAccepted j.accepts) i leaves all)))
-      (records_good j.accepts j.emits good each leaf (All-get_or (AllAccepted j.accepts) leaves i d within all)))
+      (records_good j good each before (joined_accepted j (take i leaves) (All-take (AllAccepted j) i leaves all)))
+      (records_good j good each leaf (All-get_or (AllAccepted j) leaves i d within all)))
       ∙ ap (table_of j.joined) (sym (pairs_of-append j.emits before leaf))
       ∙ ap (λ (rs : List (List ℕ)). table_of j.joined (pairs_of j.emits rs)) (sym (joined_more leaves i d within))
 

@@ -1,8 +1,8 @@
 -- How serving goes on from command to command, and how each of its ends shows the script's output.
-use Rattle.std.proofs.Common.{◌≡◌, ◌≢◌, ℕ, ◌+◌, ◌<◌, Bool, true, false, List, [], ◌++◌, length, refl, sym, ap, ◌∙◌, subst, arith, inl, inr, ◌⊎◌, append-nil, append_assoc}
+use Rattle.std.proofs.Common.{◌≡◌, ◌≢◌, ℕ, ◌+◌, ◌<◌, ◌≤◌, Bool, true, false, List, [], ◌++◌, length, refl, sym, ap, ◌∙◌, subst, arith, inl, inr, ◌⊎◌, append-nil, append_assoc}
 use Rattle.std.specs.Prelude.{Option, Ok, Err}
 use Rattle.std.specs.declared.option.Option.TheVariants.{Some, None}
-use Rattle.definitions.specs.Outside.{Told, IsPrefix, GainsPrefix}
+use Rattle.definitions.specs.Outside.{Rose, Told, IsPrefix, GainsPrefix}
 use Rattle.definitions.proofs.ToldBytes.{told_same, told_then, told_with}
 use Rattle.record_text.specs.declared.command.Command.{Command}
 use Rattle.record_text.specs.declared.script_fault.ScriptFault.{ScriptFault}
@@ -15,9 +15,11 @@ use Rattle.record_text.proofs.LineLaws.{whole_lines-used}
 use Rattle.record_text.proofs.ScriptLaws.{commands-short}
 use Rattle.record_text.proofs.ReadLaws.{uses_then}
 use Rattle.window_manager.specs.Windows.{WindowState}
-use Rattle.slider_session.specs.Output.{Meaning, Outcome, after_bytes, on_command, outcome_from, outcome_of, output_of, ending_of}
+use Rattle.job_laws.specs.Meanings.{Meaning}
+use Rattle.slider_session.specs.Devices.{DeviceView}
+use Rattle.slider_session.specs.Output.{Outcome, after_bytes, on_command, outcome_from, outcome_of, output_of, ending_of}
 use Rattle.slider_session.specs.Calls.{SessionView, state_of}
-use Rattle.slider_session.specs.Serving.{Serves, Writes, AtFault, WritesPrefix, HaltIs}
+use Rattle.slider_session.specs.Serving.{Serves, EndsSo, Writes, Whole, AtFault, OfTaken, WritesPrefix, HaltIs}
 use Rattle.slider_session.specs.declared.halt.Halt.{Halt}
 use Rattle.slider_session.specs.declared.halt.Halt.TheVariants as Halts
 use Rattle.slider_session.proofs.Stepping.{Goes, IsCut, IsRefused, ComesTo}
@@ -96,14 +98,14 @@ module _ {V : Type 0} (j : Meaning V) (w : WindowState) (most : ℕ) (fresh : Re
     )
 
     -- the script ended
-    pub at_end : (next : Reading) → Told left later (λ l m. NextTold (to_come r l) (to_come next m) next.last (Ok None)) → (used : List ℕ) × Uses r next left later used × NextTaken r next used (Ok None) → Sound next later → Serves j w most first later before now (Ok tt)
+    pub at_end : (next : Reading) → Told left later (λ l m. NextTold (to_come r l) (to_come next m) next.last (Ok None)) → (used : List ℕ) × Uses r next left later used × NextTaken r next used (Ok None) → Sound next later → Told first later (λ script after. Whole j w most script after before now)
     at_end next told took sound =
         told_with first later _ _ (told_then first left later (λ script l. outcome_of j w (commands most script) ≡ after_bytes s.gain (walk j (h.runs + 1) (state_of h) (to_come r l))) (λ l m. NextTold (to_come r l) (to_come next m) next.last (Ok None)) (λ script m. outcome_of j w (commands most script) ≡ after_bytes s.gain ([], Done))
         (λ x y z p q. p ∙ ap (λ (t : Script). after_bytes s.gain (walk j (h.runs + 1) (state_of h) t)) q.0) s.walks told)
         (λ script after a b is. let both = all_written Done script is in (both.0, sound.empty took.2.0 after b, both.1))
 
     -- the script had a fault of form
-    pub at_fault : (next : Reading) (fault : ScriptFault) → (fault.why ≢ Read) → (fault.why ≢ Mem) → Told left later (λ l m. NextTold (to_come r l) (to_come next m) next.last (Err fault)) → Serves j w most first later before now (Err (Halts.Script fault))
+    pub at_fault : (next : Reading) (fault : ScriptFault) → (fault.why ≢ Read) → (fault.why ≢ Mem) → Told left later (λ l m. NextTold (to_come r l) (to_come next m) next.last (Err fault)) → Told first later (λ script after. AtFault j w most fault.line fault.why script before now)
     at_fault next fault read mem told =
         told_with first later _ _ (told_then first left later (λ script l. outcome_of j w (commands most script) ≡ after_bytes s.gain (walk j (h.runs + 1) (state_of h) (to_come r l))) (λ l m. NextTold (to_come r l) (to_come next m) next.last (Err fault)) (λ script m. outcome_of j w (commands most script) ≡ after_bytes s.gain ([], Faulty fault.line fault.why))
         (λ x y z p q. p ∙ ap (λ (t : Script). after_bytes s.gain (walk j (h.runs + 1) (state_of h) t)) (the_fault (to_come r y) q.0)) s.walks told)
@@ -122,7 +124,7 @@ module _ {V : Type 0} (j : Meaning V) (w : WindowState) (most : ℕ) (fresh : Re
         (λ script after a b prefix. told_with before now (λ old new. new ≡ old ++ s.gain) (GainsPrefix (output_of j w (commands most script))) s.written (λ old new c d wrote. (s.gain, prefix, wrote)))
 
     -- the source failed
-    pub at_read : (fresh.ahead ≡ []) → (fresh.room ≡ most) → (fresh.ended ≡ false) → (next : Reading) (fault : ScriptFault) → fault.why ≡ Read → (used : List ℕ) × Uses r next left later used × NextTaken r next used (Err fault) → Serves j w most first later before now (Err Halts.Read)
+    pub at_read : (fresh.ahead ≡ []) → (fresh.room ≡ most) → (fresh.ended ≡ false) → (next : Reading) (fault : ScriptFault) → fault.why ≡ Read → (used : List ℕ) × Uses r next left later used × NextTaken r next used (Err fault) → Told first later (λ script after. OfTaken j w most script after before now)
     unfolding outcome_of
     at_read none room going next fault read took =
         let past = s.past ++ took.0 in
@@ -168,7 +170,7 @@ module _ {V : Type 0} (j : Meaning V) (w : WindowState) (most : ℕ) (fresh : Re
         (λ x y z p q. p ∙ ap (after_bytes s.gain) (walk_command j (h.runs + 1) (state_of h) c next.last (to_come r y) (to_come next z) q)) s.walks told
 
     -- the window refuses it
-    pub at_refusal : (fault : ScriptFault) → IsRefused j h new c next.last now wrote fault → Serves j w most first later before wrote (Err (Halts.Script fault))
+    pub at_refusal : (fault : ScriptFault) → IsRefused j h new c next.last now wrote fault → Told first later (λ script after. AtFault j w most fault.line fault.why script before wrote)
     at_refusal fault is_refused =
         told_with first later _ _ reached (λ script after a b is. subst (λ (o : Option (List ℕ)). AtFault j w most fault.line fault.why script before o) (sym is_refused.unwritten)
         (all_written later (Faulty fault.line fault.why) script (is ∙ ap (after_bytes s.gain) (is_refused.ends (λ i v. walk j i v (to_come next after))))))
@@ -196,24 +198,44 @@ module _ {V : Type 0} (j : Meaning V) (w : WindowState) (most : ℕ) (fresh : Re
     taken = λ going full x. λ i. walk j (sym (ap (λ (n : ℕ). n + 1) zero) i) (sym window i) (from_line full ACommand (sym (ap (λ (n : ℕ). n + 1) line) i) x);
   }
 
--- serving did not begin
-pub nothing_yet : {V : Type 0} (j : Meaning V) (w : WindowState) (most : ℕ) (left before : Option (List ℕ)) → Serves j w most left left before before (Err Halts.Mem)
-nothing_yet j w most left before =
-    told_same left (λ script after. Told before before (GainsPrefix (output_of j w (commands most script)))) (λ script.
-    told_same before (GainsPrefix (output_of j w (commands most script))) (λ x. ([], (output_of j w (commands most script), refl), sym (append-nil x))))
+-- a count that rose after it did not fall rose
+rose_later : (first before now : ℕ) → first ≤ before → Rose before now → Rose first now
+rose_later first before now later rose = omega (arith, later, rose)
 
-module _ {V : Type 0} (j : Meaning V) (w : WindowState) (most : ℕ) (fresh : Reading) (h : SessionView) (r : Reading) (first left before now : Option (List ℕ)) (s : Stands j w most fresh h r first left before now) (next : Reading) (later : Option (List ℕ)) where
+-- serving did not begin
+pub nothing_yet : {V : Type 0} (j : Meaning V) (w : WindowState) (most : ℕ) (left before : DeviceView) → Serves j w most left left before before (Err Halts.Mem)
+nothing_yet j w most left before = record {
+  ends = told_same left.bytes (λ script after. Told before.bytes before.bytes (GainsPrefix (output_of j w (commands most script)))) (λ script.
+      told_same before.bytes (GainsPrefix (output_of j w (commands most script))) (λ x. ([], (output_of j w (commands most script), refl), sym (append-nil x))));
+  source_later = omega arith;
+  sink_later = omega arith;
+}
+
+-- The reader went on from `left` to `rest`, and before that from `first`; the sink held `before` first and holds `now`.
+module _ {V : Type 0} (j : Meaning V) (w : WindowState) (most : ℕ) (fresh : Reading) (h : SessionView) (r : Reading) (first left before now : DeviceView) (s : Stands j w most fresh h r first.bytes left.bytes before.bytes now.bytes) (next : Reading) (rest : DeviceView) where
+  -- the script ended
+  pub at_close : Told left.bytes rest.bytes (λ l m. NextTold (to_come r l) (to_come next m) next.last (Ok None)) → (used : List ℕ) × Uses r next left.bytes rest.bytes used × NextTaken r next used (Ok None) → Sound next rest.bytes → EndsSo j w most first rest before now (Ok tt)
+  at_close told took sound = at_end j w most fresh h r first.bytes left.bytes before.bytes now.bytes s rest.bytes next told took sound
+
   -- the reader stopped with a fault
-  pub at_stop : (fresh.ahead ≡ []) → (fresh.room ≡ most) → (fresh.ended ≡ false) → (fault : ScriptFault) (halt : Halt) → HaltIs fault halt → Told left later (λ l m. NextTold (to_come r l) (to_come next m) next.last (Err fault)) → (used : List ℕ) × Uses r next left later used × NextTaken r next used (Err fault) → Serves j w most first later before now (Err halt)
-  at_stop none room open' fault (Halts.Script f) is told took =
-      subst (λ (x : ScriptFault). Serves j w most first later before now (Err (Halts.Script x))) (sym is.0) (at_fault j w most fresh h r first left before now s later next fault is.1 is.2 told)
-  at_stop none room open' fault Halts.Read is told took = at_read j w most fresh h r first left before now s later none room open' next fault is took
-  at_stop none room open' fault Halts.Write is told took = absurd is
-  at_stop none room open' fault Halts.Mem is told took = at_front j w most fresh h r first left before now s later (told_with left later _ (λ l m. Unit {0}) told (λ x y a b p. tt))
+  pub at_stop : (fresh.ahead ≡ []) → (fresh.room ≡ most) → (fresh.ended ≡ false) → (fault : ScriptFault) (halt : Halt) → HaltIs fault halt → first.faults ≤ left.faults → (fault.why ≡ Read → Rose left.faults rest.faults)
+      → Told left.bytes rest.bytes (λ l m. NextTold (to_come r l) (to_come next m) next.last (Err fault)) → (used : List ℕ) × Uses r next left.bytes rest.bytes used × NextTaken r next used (Err fault) → EndsSo j w most first rest before now (Err halt)
+  at_stop none room open' fault (Halts.Script f) is later failed told took =
+      subst (λ (x : ScriptFault). EndsSo j w most first rest before now (Err (Halts.Script x))) (sym is.0)
+      (at_fault j w most fresh h r first.bytes left.bytes before.bytes now.bytes s rest.bytes next fault is.1.0 is.1.1 told, is.1)
+  at_stop none room open' fault Halts.Read is later failed told took = (
+    at_read j w most fresh h r first.bytes left.bytes before.bytes now.bytes s rest.bytes none room open' next fault is took,
+    rose_later first.faults left.faults rest.faults later (failed is),
+  )
+  at_stop none room open' fault Halts.Write is later failed told took = absurd is
+  at_stop none room open' fault Halts.Mem is later failed told took = at_front j w most fresh h r first.bytes left.bytes before.bytes now.bytes s rest.bytes (told_with left.bytes rest.bytes _ (λ l m. Unit {0}) told (λ x y a b p. tt))
 
   -- a step stopped
-  pub at_halt : (new : SessionView) (c : Command) (wrote : Option (List ℕ)) (halt : Halt) → Told left later (λ l m. NextTold (to_come r l) (to_come next m) next.last (Ok (Some c))) → ComesTo j h new c next.last now wrote (Err halt) → Serves j w most first later before wrote (Err halt)
-  at_halt new c wrote (Halts.Script fault) told comes = at_refusal j w most fresh h r first left before now s new next c later wrote told fault comes
-  at_halt new c wrote Halts.Read told comes = absurd comes
-  at_halt new c wrote Halts.Write told comes = at_cut j w most fresh h r first left before now s new next c later wrote told comes
-  at_halt new c wrote Halts.Mem told comes = at_cut j w most fresh h r first left before now s new next c later wrote told comes
+  pub at_halt : (new : SessionView) (c : Command) (wrote : DeviceView) (halt : Halt) → before.faults ≤ now.faults → Told left.bytes rest.bytes (λ l m. NextTold (to_come r l) (to_come next m) next.last (Ok (Some c))) → ComesTo j h new c next.last now wrote (Err halt) → EndsSo j w most first rest before wrote (Err halt)
+  at_halt new c wrote (Halts.Script fault) later told comes = (at_refusal j w most fresh h r first.bytes left.bytes before.bytes now.bytes s new next c rest.bytes wrote.bytes told fault comes.0, comes.1)
+  at_halt new c wrote Halts.Read later told comes = absurd comes
+  at_halt new c wrote Halts.Write later told comes = (
+    at_cut j w most fresh h r first.bytes left.bytes before.bytes now.bytes s new next c rest.bytes wrote.bytes told comes.0,
+    rose_later before.faults now.faults wrote.faults later comes.1,
+  )
+  at_halt new c wrote Halts.Mem later told comes = at_cut j w most fresh h r first.bytes left.bytes before.bytes now.bytes s new next c rest.bytes wrote.bytes told comes

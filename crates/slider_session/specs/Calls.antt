@@ -1,7 +1,8 @@
 -- What the two kinds of steps promise: a command that the window carries out or refuses, and a run.
-use Rattle.std.specs.Prelude.{◌≡◌, ℕ, ◌+◌, Bool, List, ◌++◌, Option, Result, Ok, Err, ◌⊎◌}
+use Rattle.std.specs.Prelude.{◌≡◌, ◌<◌, ◌≤◌, ℕ, ◌+◌, ◌^◌, Bool, List, ◌++◌, Option, Result, Ok, Err, ◌⊎◌}
 use Rattle.std.specs.declared.option.Option.TheVariants.{Some, None}
-use Rattle.definitions.specs.Outside.{Told, GainsPrefix}
+use Rattle.definitions.specs.Outside.{Rose, Told, GainsPrefix}
+use Rattle.job_laws.specs.Meanings.{Meaning}
 use Rattle.record_text.specs.declared.command.Command.{Command}
 use Rattle.record_text.specs.declared.command.Command.TheVariants.{Run}
 use Rattle.record_text.specs.Script.{Faulty}
@@ -11,7 +12,8 @@ use Rattle.window_manager.specs.declared.fault.WindowFault.{WindowFault}
 use Rattle.run_settings.specs.declared.settings.Settings.{Settings}
 use Rattle.slider_session.specs.declared.halt.Halt.{Halt}
 use Rattle.slider_session.specs.declared.halt.Halt.TheVariants as Halts
-use Rattle.slider_session.specs.Output.{Meaning, ended_by, piece}
+use Rattle.slider_session.specs.Devices.{DeviceView}
+use Rattle.slider_session.specs.Output.{IsOfScript, ended_by, piece}
 
 -- What a session holds: its job's setting, its settings, how many runs it has answered, and its window.
 pub record SessionView : Type 0 where
@@ -28,11 +30,17 @@ state_of h = h.window.window
 abbrev pub accepted_of : SessionView → ℕ
 accepted_of h = h.window.slid.accepted
 
+-- There is room for one step more: numbers of lines, runs and accepted buckets are far from their ends.
+pub record HasRoom (h : SessionView) (line : ℕ) : Type 0 where
+  pub line : line ≤ 2 ^ 62
+  pub runs : h.runs < 2 ^ 63
+  pub accepted : accepted_of h < 2 ^ 63
+
 -- A command of the window was carried out, or refused on its line; nothing else was touched, and want of memory comes
 -- only where nothing refuses it.
 abbrev pub Changes : (List ℕ → Bool) → SessionView → SessionView → Command → ℕ → Result (Unit {0}) Halt → Type 0
 Changes accepts old new c line (Ok done) = (refusal_of accepts (state_of old) c ≡ None) × IsDone old.window new.window c × (new ≡ record old { window = new.window })
-Changes accepts old new c line (Err (Halts.Script fault)) = (refused : WindowFault) × (refusal_of accepts (state_of old) c ≡ Some refused) × (ended_by line refused ≡ Faulty fault.line fault.why) × (new ≡ old)
+Changes accepts old new c line (Err (Halts.Script fault)) = (refused : WindowFault) × (refusal_of accepts (state_of old) c ≡ Some refused) × (ended_by line refused ≡ Faulty fault.line fault.why) × (new ≡ old) × IsOfScript fault.why
 Changes accepts old new c line (Err Halts.Read) = ⊥
 Changes accepts old new c line (Err Halts.Write) = ⊥
 Changes accepts old new c line (Err Halts.Mem) = (refusal_of accepts (state_of old) c ≡ None) × (new ≡ old)
@@ -46,16 +54,17 @@ module _ {V : Type 0} (j : Meaning V) where
   abbrev pub next_piece : SessionView → List ℕ
   next_piece h = piece j (h.runs + 1) (state_of h)
 
-  -- A run was answered; where a write failed the run stands, and a prefix of its piece was written; where memory ran out
-  -- it stands so too, or all is as before.
-  abbrev pub AnswersRun : SessionView → SessionView → Option (List ℕ) → Option (List ℕ) → Result (Unit {0}) Halt → Type 0
-  AnswersRun old new before now (Ok done) = RunStands old new × Told before now (λ bytes more. more ≡ bytes ++ next_piece old)
-  AnswersRun old new before now (Err (Halts.Script fault)) = ⊥
-  AnswersRun old new before now (Err Halts.Read) = ⊥
-  AnswersRun old new before now (Err Halts.Write) = RunStands old new × Told before now (GainsPrefix (next_piece old))
-  AnswersRun old new before now (Err Halts.Mem) = ((new ≡ old) × (now ≡ before)) ⊎ (RunStands old new × Told before now (GainsPrefix (next_piece old)))
+  -- A run was answered; if a write failed the run stands, and a prefix of its piece was written; if memory ran out it
+  -- stands so too, or all is as before.
+  abbrev pub RunAnswered : SessionView → SessionView → DeviceView → DeviceView → Result (Unit {0}) Halt → Type 0
+  RunAnswered old new before now (Ok done) = RunStands old new × Told before.bytes now.bytes (λ bytes more. more ≡ bytes ++ next_piece old)
+  RunAnswered old new before now (Err (Halts.Script fault)) = ⊥
+  RunAnswered old new before now (Err Halts.Read) = ⊥
+  RunAnswered old new before now (Err Halts.Write) = RunStands old new × Told before.bytes now.bytes (GainsPrefix (next_piece old)) × Rose before.faults now.faults
+  RunAnswered old new before now (Err Halts.Mem) = ((new ≡ old) × (now.bytes ≡ before.bytes)) ⊎ (RunStands old new × Told before.bytes now.bytes (GainsPrefix (next_piece old)))
 
-  -- One command on a line: a run is answered, and any other command is the window's and writes nothing.
-  abbrev pub Steps : SessionView → SessionView → Command → ℕ → Option (List ℕ) → Option (List ℕ) → Result (Unit {0}) Halt → Type 0
-  Steps old new Run line before now result = AnswersRun old new before now result
+  -- One command on a line: a run is answered, and any other command is the window's and writes nothing. `before` and `now`
+  -- are what was seen of the sink.
+  abbrev pub Steps : SessionView → SessionView → Command → ℕ → DeviceView → DeviceView → Result (Unit {0}) Halt → Type 0
+  Steps old new Run line before now result = RunAnswered old new before now result × (before.faults ≤ now.faults)
   Steps old new c line before now result = Changes j.accepts old new c line result × (now ≡ before)

@@ -1,28 +1,15 @@
--- What the meters of a session count, each in its place.
-use Rattle.std.specs.Prelude.{◌≡◌, ◌≤◌, ℕ, ◌+◌, List, [], ◌∷◌, slice_index_or}
+-- What the meters of a session count at the most.
+use Rattle.std.specs.Prelude.{ℕ, length}
+use Rattle.job_laws.specs.declared.meter.Counts.{Counts}
+use Rattle.job_laws.specs.Rows.{Row, RowRose, WorkedWithin}
+use Rattle.window_manager.specs.Windows.{WindowState, present}
 
--- A count of all meters together.
-abbrev pub total : {M : Type 0} → (M → ℕ) → List M → ℕ
-total count [] = 0
-total count (m ∷ ms) = count m + total count ms
+-- Each meter rose in its place: the lanes together by a map for each record at the most, and each part by a merge for
+-- each leaf.
+pub record Works {M : Type 0} (counts : M → Counts) (records leaves : ℕ) (old new : Row M) : Type 0 where
+  pub rose : RowRose counts old new
+  pub within : WorkedWithin counts records leaves old new
 
-module _ {M : Type 0} (maps merges joins : M → ℕ) where
-  -- A meter of a lane counted maps and joins, and no merge.
-  abbrev pub LaneRose : M → M → Type 0
-  LaneRose old new = (maps old ≤ maps new) × (merges new ≡ merges old) × (joins old ≤ joins new)
-
-  -- A meter of a part counted merges and joins, and no map.
-  abbrev pub PartRose : M → M → Type 0
-  PartRose old new = (maps new ≡ maps old) × (merges old ≤ merges new) × (joins old ≤ joins new)
-
-  -- The meters of lanes and those of parts, each compared with the one that stood in its place.
-  pub record MetersRose (old_lanes old_parts new_lanes new_parts : List M) : Type 0 where
-    pub lanes : (i : ℕ) (d : M) → LaneRose (slice_index_or old_lanes i d) (slice_index_or new_lanes i d)
-    pub parts : (i : ℕ) (d : M) → PartRose (slice_index_or old_parts i d) (slice_index_or new_parts i d)
-
-module _ {M : Type 0} (maps merges : M → ℕ) where
-  -- What a run over so many records in so many leaves counts at the most: the lanes together a map for each record, and
-  -- each part a merge for each leaf.
-  pub record WorkedWithin (records leaves : ℕ) (old_lanes old_parts new_lanes new_parts : List M) : Type 0 where
-    pub lanes : total maps new_lanes ≤ total maps old_lanes + records
-    pub parts : (i : ℕ) (d : M) → merges (slice_index_or new_parts i d) ≤ merges (slice_index_or old_parts i d) + leaves
+-- What one run over a window counts at the most.
+abbrev pub RunWorks : {M : Type 0} → (M → Counts) → WindowState → Row M → Row M → Type 0
+RunWorks counts w old new = Works counts (length (present w)) (length w.leaves) old new

@@ -1,26 +1,17 @@
 -- What is written for a script, over all its runs, and how the script ends.
-use Rattle.std.specs.Prelude.{ℕ, ◌+◌, Bool, List, [], ◌∷◌, ◌++◌, length, codes, decimal, Option}
+use Rattle.std.specs.Prelude.{◌≢◌, ℕ, ◌+◌, List, [], ◌∷◌, ◌++◌, length, codes, decimal, Option}
 use Rattle.std.specs.declared.option.Option.TheVariants.{Some, None}
 use Rattle.definitions.specs.Tables.{keys_of}
 use Rattle.definitions.specs.Answer.{pairs_of, answer_of}
+use Rattle.job_laws.specs.Meanings.{Meaning}
 use Rattle.record_text.specs.declared.command.Command.{Command}
 use Rattle.record_text.specs.declared.command.Command.TheVariants.{Run}
+use Rattle.record_text.specs.declared.script_fault.Why.{Why}
 use Rattle.record_text.specs.declared.script_fault.Why.TheVariants as Whys
 use Rattle.record_text.specs.Script.{Script, Ending, Faulty}
 use Rattle.window_manager.specs.Windows.{WindowState, window_after, present, refusal_of}
 use Rattle.window_manager.specs.declared.fault.WindowFault.{WindowFault}
 use Rattle.window_manager.specs.declared.fault.WindowFault.TheVariants as Faults
-
--- What a job means at its setting: the records that it accepts, the pairs of a record, two values joined, the lines of a key.
-pub record Meaning (V : Type 0) : Type 0 where
-  pub accepts : List ℕ → Bool
-  pub emits : List ℕ → List (List ℕ × V)
-  pub joined : V → V → V
-  pub text : List ℕ → V → List ℕ
-
--- The meaning of these four.
-abbrev pub meaning : {V : Type 0} → (List ℕ → Bool) → (List ℕ → List (List ℕ × V)) → (V → V → V) → (List ℕ → V → List ℕ) → Meaning V
-meaning accepts emits joined text = record { accepts = accepts; emits = emits; joined = joined; text = text }
 
 -- What was written, and how the script ended.
 abbrev pub Outcome : Type 0
@@ -33,6 +24,10 @@ after_bytes bytes o = (bytes ++ o.0, o.1)
 -- The first line of run i, over so many keys.
 abbrev pub header : ℕ → ℕ → List ℕ
 header i keys = codes "# run " ++ decimal i ++ (codes " keys " ++ decimal keys ++ codes "\n")
+
+-- A fault is one of the script itself: no device failed, and memory did not run out.
+abbrev pub IsOfScript : Why → Type 0
+IsOfScript why = (why ≢ Whys.Read) × (why ≢ Whys.Mem)
 
 -- How a script ends at the command on a line that the window refuses: at that line, or at the record's.
 abbrev pub ended_by : ℕ → WindowFault → Ending

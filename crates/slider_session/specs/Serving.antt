@@ -1,6 +1,6 @@
 -- What serving a whole script promises.
-use Rattle.std.specs.Prelude.{◌≡◌, ◌≢◌, ℕ, List, [], ◌++◌, length, Option, Result, Ok, Err}
-use Rattle.definitions.specs.Outside.{Told, IsPrefix, GainsPrefix}
+use Rattle.std.specs.Prelude.{◌≡◌, ◌≤◌, ℕ, List, [], ◌++◌, Option, Result, Ok, Err}
+use Rattle.definitions.specs.Outside.{Rose, Told, IsPrefix, GainsPrefix}
 use Rattle.record_text.specs.declared.script_fault.ScriptFault.{ScriptFault}
 use Rattle.record_text.specs.declared.script_fault.Why.{Why}
 use Rattle.record_text.specs.declared.script_fault.Why.TheVariants.{Read, Mem}
@@ -9,17 +9,11 @@ use Rattle.record_text.specs.Script.{commands, Done, Faulty}
 use Rattle.window_manager.specs.Windows.{WindowState}
 use Rattle.window_manager.specs.declared.fault.WindowFault.{WindowFault}
 use Rattle.window_manager.specs.declared.fault.WindowFault.TheVariants as Faults
-use Rattle.slider_session.specs.Output.{Meaning, ended_by, output_of, ending_of}
+use Rattle.job_laws.specs.Meanings.{Meaning}
+use Rattle.slider_session.specs.Devices.{DeviceView}
+use Rattle.slider_session.specs.Output.{IsOfScript, ended_by, output_of, ending_of}
 use Rattle.slider_session.specs.declared.halt.Halt.{Halt}
 use Rattle.slider_session.specs.declared.halt.Halt.TheVariants as Halts
-
--- A fault of a script is neither of a device nor want of memory.
-abbrev pub IsOfScript : Result (Unit {0}) Halt → Type 0
-IsOfScript (Ok done) = Unit {0}
-IsOfScript (Err (Halts.Script fault)) = (fault.why ≢ Read) × (fault.why ≢ Mem)
-IsOfScript (Err Halts.Read) = Unit {0}
-IsOfScript (Err Halts.Write) = Unit {0}
-IsOfScript (Err Halts.Mem) = Unit {0}
 
 module _ {V : Type 0} (j : Meaning V) (w : WindowState) (most : ℕ) where
   -- The output of a script was written behind what the sink held before.
@@ -46,21 +40,23 @@ module _ {V : Type 0} (j : Meaning V) (w : WindowState) (most : ℕ) where
   abbrev pub WritesPrefix : List ℕ → Option (List ℕ) → Option (List ℕ) → Type 0
   WritesPrefix script before now = Told before now (GainsPrefix (output_of j w (commands most script)))
 
-  -- Serving a script, where the source had `left` and has `rest`, and the sink held `before` and holds `now`.
-  abbrev pub Serves : Option (List ℕ) → Option (List ℕ) → Option (List ℕ) → Option (List ℕ) → Result (Unit {0}) Halt → Type 0
-  Serves left rest before now (Ok done) = Told left rest (λ script after. Whole script after before now)
-  Serves left rest before now (Err (Halts.Script fault)) = Told left rest (λ script after. AtFault fault.line fault.why script before now)
-  Serves left rest before now (Err Halts.Read) = Told left rest (λ script after. OfTaken script after before now)
-  Serves left rest before now (Err Halts.Write) = Told left rest (λ script after. WritesPrefix script before now)
-  Serves left rest before now (Err Halts.Mem) = Told left rest (λ script after. WritesPrefix script before now)
+  -- What each answer says of a script that a source had `left` when it has `rest`, and of its output on a sink.
+  abbrev pub EndsSo : DeviceView → DeviceView → DeviceView → DeviceView → Result (Unit {0}) Halt → Type 0
+  EndsSo left rest before now (Ok done) = Told left.bytes rest.bytes (λ script after. Whole script after before.bytes now.bytes)
+  EndsSo left rest before now (Err (Halts.Script fault)) = Told left.bytes rest.bytes (λ script after. AtFault fault.line fault.why script before.bytes now.bytes) × IsOfScript fault.why
+  EndsSo left rest before now (Err Halts.Read) = Told left.bytes rest.bytes (λ script after. OfTaken script after before.bytes now.bytes) × Rose left.faults rest.faults
+  EndsSo left rest before now (Err Halts.Write) = Told left.bytes rest.bytes (λ script after. WritesPrefix script before.bytes now.bytes) × Rose before.faults now.faults
+  EndsSo left rest before now (Err Halts.Mem) = Told left.bytes rest.bytes (λ script after. WritesPrefix script before.bytes now.bytes)
 
--- There are 16 meters for lanes and 16 for parts.
-abbrev pub FitsMeters : {M : Type 0} → List M → List M → Type 0
-FitsMeters lanes parts = (length lanes ≡ 16) × (length parts ≡ 16)
+  -- A script was served, from the source before and after to the sink before and after.
+  pub record Serves (left rest before now : DeviceView) (result : Result (Unit {0}) Halt) : Type 0 where
+    pub ends : EndsSo left rest before now result
+    pub source_later : left.faults ≤ rest.faults
+    pub sink_later : before.faults ≤ now.faults
 
 -- The halt that a reader's fault is.
 abbrev pub HaltIs : ScriptFault → Halt → Type 0
-HaltIs fault (Halts.Script f) = (f ≡ fault) × (fault.why ≢ Read) × (fault.why ≢ Mem)
+HaltIs fault (Halts.Script f) = (f ≡ fault) × IsOfScript fault.why
 HaltIs fault Halts.Read = fault.why ≡ Read
 HaltIs fault Halts.Write = ⊥
 HaltIs fault Halts.Mem = fault.why ≡ Mem
@@ -68,7 +64,7 @@ HaltIs fault Halts.Mem = fault.why ≡ Mem
 -- The halt that a refusal of the window on a line is.
 abbrev pub RefusalIs : ℕ → WindowFault → Halt → Type 0
 RefusalIs line Faults.Mem halt = halt ≡ Halts.Mem
-RefusalIs line refused (Halts.Script fault) = (ended_by line refused ≡ Faulty fault.line fault.why) × (fault.why ≢ Read) × (fault.why ≢ Mem)
+RefusalIs line refused (Halts.Script fault) = (ended_by line refused ≡ Faulty fault.line fault.why) × IsOfScript fault.why
 RefusalIs line refused Halts.Read = ⊥
 RefusalIs line refused Halts.Write = ⊥
 RefusalIs line refused Halts.Mem = ⊥

@@ -1,14 +1,13 @@
 //! What a run writes: each leaf of the window is mapped to a sheet for each part, and the sheets of a part are merged.
 ghost use Rattle.std.specs.Prelude.{◌≡◌, ◌≤◌, ◌++◌, ℕ, List, length, All, IfOk};
 ghost use Rattle.definitions.specs.Limits.{most_parts};
-ghost use Rattle.definitions.specs.Tables.{table_of, merged};
-ghost use Rattle.definitions.specs.Answer.{pairs_of};
-ghost use Rattle.sheets.specs.Parts.{AreSheets};
+ghost use Rattle.job_laws.specs.Meanings.{meaning_of, AllAccepted};
+ghost use Rattle.sheets.specs.Parts.{AreSheets, IsMapped};
 ghost use Rattle.window_manager.specs.Windows.{present};
-ghost use Rattle.slider_session.specs.Output.{meaning, header, piece};
-ghost use Rattle.slider_session.specs.Accepted.{AllAccepted, HoldsAccepted};
-ghost use Rattle.slider_session.specs.Serving.{FitsMeters};
-ghost use Rattle.slider_session.specs.Meters.{MetersRose, WorkedWithin};
+ghost use Rattle.slider_session.specs.Output.{header, piece};
+ghost use Rattle.slider_session.specs.Accepted.{HoldsAccepted};
+ghost use Rattle.slider_session.specs.Meters.{Works, RunWorks};
+ghost use Rattle.slider_session.specs.Merging.{with_records};
 
 use job_laws::{Job, MeterRow};
 use record_text::Records;
@@ -26,13 +25,10 @@ pub fn piece_of<J: Job>(
     run: u64,
     meters: &mut MeterRow<J::Meter>,
 ) -> Result<Vec<u8>, AllocError>
-    requires accepted { HoldsAccepted (J.accepts (J.setting job.now)) window.now.window }
+    requires accepted { HoldsAccepted (meaning_of J.Job job.now) window.now.window }
     requires parts { (1 ≤ parts) × (parts ≤ most_parts) }
-    requires meters { FitsMeters meters.old.lanes.items meters.old.parts.items }
-    ensures piece { IfOk result (λ bytes. bytes.items ≡ piece (meaning (J.accepts (J.setting job.now)) (J.emits (J.setting job.now)) (J.joined (J.setting job.now)) (J.text (J.setting job.now))) run window.now.window) }
-    ensures meters { FitsMeters meters.new.lanes.items meters.new.parts.items }
-    ensures counted { MetersRose J.Meter.maps J.Meter.merges J.Meter.joins meters.old.lanes.items meters.old.parts.items meters.new.lanes.items meters.new.parts.items }
-    ensures worked { WorkedWithin J.Meter.maps J.Meter.merges (length (present window.now.window)) (length window.now.window.leaves) meters.old.lanes.items meters.old.parts.items meters.new.lanes.items meters.new.parts.items }
+    ensures piece { IfOk result (λ bytes. bytes.items ≡ piece (meaning_of J.Job job.now) run window.now.window) }
+    ensures works { RunWorks J.Meter.counts window.now.window meters.old meters.new }
 {
     let roots = roots_of_leaves(alloc, job, parts, window, meters)?;
     let mut lines = Vec::new(alloc);
@@ -58,13 +54,10 @@ fn roots_of_leaves<J: Job>(
     window: &Window,
     meters: &mut MeterRow<J::Meter>,
 ) -> Result<Vec<Sheet<J>>, AllocError>
-    requires accepted { HoldsAccepted (J.accepts (J.setting job.now)) window.now.window }
+    requires accepted { HoldsAccepted (meaning_of J.Job job.now) window.now.window }
     requires parts { (1 ≤ parts) × (parts ≤ most_parts) }
-    requires meters { FitsMeters meters.old.lanes.items meters.old.parts.items }
-    ensures roots { IfOk result (λ roots. AreSheets (J.setting job.now) parts (table_of (J.joined (J.setting job.now)) (pairs_of (J.emits (J.setting job.now)) (present window.now.window))) roots.items) }
-    ensures meters { FitsMeters meters.new.lanes.items meters.new.parts.items }
-    ensures counted { MetersRose J.Meter.maps J.Meter.merges J.Meter.joins meters.old.lanes.items meters.old.parts.items meters.new.lanes.items meters.new.parts.items }
-    ensures worked { WorkedWithin J.Meter.maps J.Meter.merges (length (present window.now.window)) (length window.now.window.leaves) meters.old.lanes.items meters.old.parts.items meters.new.lanes.items meters.new.parts.items }
+    ensures roots { IfOk result (λ roots. IsMapped (meaning_of J.Job job.now) (J.setting job.now) parts (present window.now.window) roots.items) }
+    ensures works { RunWorks J.Meter.counts window.now.window meters.old meters.new }
 {
     let none = Records::new(alloc);
     let mut roots = map_sheets(alloc, job, &none, parts, &mut meters.lanes[0])?;
@@ -90,12 +83,9 @@ fn with_leaf<J: Job>(
     requires parts { (1 ≤ parts) × (parts ≤ most_parts) }
     requires count { length roots.now ≡ parts }
     requires settings { All (λ s. s.setting ≡ J.setting job.now) roots.now }
-    requires accepted { AllAccepted (J.accepts (J.setting job.now)) leaf.now }
-    requires meters { FitsMeters meters.old.lanes.items meters.old.parts.items }
-    ensures roots { (t : List (List ℕ × J.Val)) → AreSheets (J.setting job.now) parts t roots.now → IfOk result (λ more. AreSheets (J.setting job.now) parts (merged (J.joined (J.setting job.now)) t (table_of (J.joined (J.setting job.now)) (pairs_of (J.emits (J.setting job.now)) leaf.now))) more.items) }
-    ensures meters { FitsMeters meters.new.lanes.items meters.new.parts.items }
-    ensures counted { MetersRose J.Meter.maps J.Meter.merges J.Meter.joins meters.old.lanes.items meters.old.parts.items meters.new.lanes.items meters.new.parts.items }
-    ensures worked { WorkedWithin J.Meter.maps J.Meter.merges (length leaf.now) 1 meters.old.lanes.items meters.old.parts.items meters.new.lanes.items meters.new.parts.items }
+    requires accepted { AllAccepted (meaning_of J.Job job.now) leaf.now }
+    ensures roots { (t : List (List ℕ × J.Val)) → AreSheets (J.setting job.now) parts t roots.now → IfOk result (λ more. AreSheets (J.setting job.now) parts (with_records (meaning_of J.Job job.now) t leaf.now) more.items) }
+    ensures works { Works J.Meter.counts (length leaf.now) 1 meters.old meters.new }
 {
     let mapped = map_sheets(alloc, job, leaf, parts, &mut meters.lanes[0])?;
     let mut both = Vec::new(alloc);

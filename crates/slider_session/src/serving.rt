@@ -1,12 +1,12 @@
 //! Serves a whole script.
-ghost use Rattle.std.specs.Prelude.{◌≡◌, ◌<◌, ◌≤◌, ◌+◌, ◌-◌, ◌^◌, ◌++◌, [], ℕ, List, length, IsErrOf, None};
-ghost use Rattle.definitions.specs.Outside.{Rose};
-ghost use Rattle.window_manager.specs.Windows.{empty_window};
-ghost use Rattle.slider_session.specs.Output.{meaning};
-ghost use Rattle.run_settings.specs.Settings.{AreWithin};
+ghost use Rattle.std.specs.Prelude.{◌≡◌};
 ghost use Rattle.definitions.specs.Limits.{most_script};
-ghost use Rattle.slider_session.specs.Serving.{Serves, IsOfScript, FitsMeters, HaltIs};
-ghost use Rattle.slider_session.specs.Meters.{MetersRose};
+ghost use Rattle.job_laws.specs.Meanings.{meaning_of};
+ghost use Rattle.job_laws.specs.Rows.{RowRose};
+ghost use Rattle.window_manager.specs.Windows.{empty_window};
+ghost use Rattle.run_settings.specs.Settings.{AreWithin};
+ghost use Rattle.slider_session.specs.Devices.{source_view, sink_view};
+ghost use Rattle.slider_session.specs.Serving.{Serves, HaltIs};
 
 use crate::{Halt, Session};
 use definitions::MOST_SCRIPT;
@@ -39,16 +39,9 @@ pub fn serve<J: Job, S: Source, K: Sink>(
     out: &mut K,
     meters: &mut MeterRow<J::Meter>,
 ) -> Result<(), Halt>
-    requires settings { AreWithin settings }
-    requires meters { FitsMeters meters.old.lanes.items meters.old.parts.items }
-    ensures serves { Serves (meaning (J.accepts (J.setting job)) (J.emits (J.setting job)) (J.joined (J.setting job)) (J.text (J.setting job))) (empty_window kind settings.places) most_script (S.left source.old) (S.left source.new) (K.held out.old) (K.held out.new) result }
-    ensures script { IsOfScript result }
-    ensures source_later { S.faults source.old ≤ S.faults source.new }
-    ensures later { K.faults out.old ≤ K.faults out.new }
-    ensures read { IsErrOf result Halt.Read → Rose (S.faults source.old) (S.faults source.new) }
-    ensures write { IsErrOf result Halt.Write → Rose (K.faults out.old) (K.faults out.new) }
-    ensures meters { FitsMeters meters.new.lanes.items meters.new.parts.items }
-    ensures counted { MetersRose J.Meter.maps J.Meter.merges J.Meter.joins meters.old.lanes.items meters.old.parts.items meters.new.lanes.items meters.new.parts.items }
+    requires { AreWithin settings }
+    ensures serves { Serves (meaning_of J.Job job) (empty_window kind settings.places) most_script (source_view S.Source source.old) (source_view S.Source source.new) (sink_view K.Sink out.old) (sink_view K.Sink out.new) result }
+    ensures counted { RowRose J.Meter.counts meters.old meters.new }
 {
     let mut session = match Session::new(alloc, job, settings, kind) {
         Ok(session) => session,

@@ -1,14 +1,13 @@
 //! One script's window and its runs.
-ghost use Rattle.std.specs.Prelude.{◌≡◌, ◌<◌, ◌≤◌, ◌^◌, ℕ, List, length, IfOk, IsErrOf};
-ghost use Rattle.definitions.specs.Outside.{Rose};
+ghost use Rattle.std.specs.Prelude.{◌≡◌, ◌≢◌, ◌<◌, ◌≤◌, ◌^◌, IfOk};
 ghost use Rattle.record_text.specs.declared.command.Command.TheVariants.{Run};
-ghost use Rattle.window_manager.specs.Windows.{present};
+ghost use Rattle.job_laws.specs.Meanings.{meaning_at};
 ghost use Rattle.window_manager.specs.Views.{no_leaves};
-ghost use Rattle.slider_session.specs.Output.{meaning};
 ghost use Rattle.run_settings.specs.Settings.{AreWithin};
-ghost use Rattle.slider_session.specs.Calls.{SessionView, state_of, accepted_of, Changes, AnswersRun, Steps};
-ghost use Rattle.slider_session.specs.Serving.{IsOfScript, FitsMeters, RefusalIs};
-ghost use Rattle.slider_session.specs.Meters.{MetersRose, WorkedWithin};
+ghost use Rattle.slider_session.specs.Devices.{sink_view};
+ghost use Rattle.slider_session.specs.Calls.{state_of, accepted_of, HasRoom, Changes, RunAnswered, Steps};
+ghost use Rattle.slider_session.specs.Serving.{RefusalIs};
+ghost use Rattle.slider_session.specs.Meters.{RunWorks};
 
 use crate::answering::piece_of;
 use crate::Halt;
@@ -31,6 +30,7 @@ pub struct Session<J: Job> {
 }
 
 impl<J: Job> Model for Session<J> {
+    ghost use Rattle.job_laws.specs.Meanings.{meaning_of};
     ghost use Rattle.slider_session.specs.Accepted.{HoldsAccepted};
     ghost use Rattle.slider_session.specs.Calls.{SessionView};
     ghost use Rattle.run_settings.specs.Settings.{AreWithin};
@@ -39,7 +39,7 @@ impl<J: Job> Model for Session<J> {
 
     ghost view = { λ s. record { setting = J.setting s.job; settings = s.settings; runs = s.runs; window = s.window } };
 
-    ghost invariant = { λ s. HoldsAccepted (J.accepts (J.setting s.job)) s.window.window × AreWithin s.settings };
+    ghost invariant = { λ s. HoldsAccepted (meaning_of J.Job s.job) s.window.window × AreWithin s.settings };
 }
 
 impl<J: Job> Session<J> {
@@ -73,18 +73,10 @@ impl<J: Job> Session<J> {
         out: &mut K,
         meters: &mut MeterRow<J::Meter>,
     ) -> Result<(), Halt>
-        requires line { line ≤ 2 ^ 62 }
-        requires runs { self.old.runs < 2 ^ 63 }
-        requires accepted { accepted_of self.old < 2 ^ 63 }
-        requires meters { FitsMeters meters.old.lanes.items meters.old.parts.items }
-        ensures steps { Steps (meaning (J.accepts self.old.setting) (J.emits self.old.setting) (J.joined self.old.setting) (J.text self.old.setting)) self.old self.new c line (K.held out.old) (K.held out.new) result }
-        ensures untouched { (c ≡ Run → ⊥) → (out.new ≡ out.old) × (meters.new ≡ meters.old) }
-        ensures script { IsOfScript result }
-        ensures later { K.faults out.old ≤ K.faults out.new }
-        ensures failed { IsErrOf result Halt.Write → Rose (K.faults out.old) (K.faults out.new) }
-        ensures meters { FitsMeters meters.new.lanes.items meters.new.parts.items }
-        ensures counted { MetersRose J.Meter.maps J.Meter.merges J.Meter.joins meters.old.lanes.items meters.old.parts.items meters.new.lanes.items meters.new.parts.items }
-        ensures worked { WorkedWithin J.Meter.maps J.Meter.merges (length (present (state_of self.old))) (length (state_of self.old).leaves) meters.old.lanes.items meters.old.parts.items meters.new.lanes.items meters.new.parts.items }
+        requires { HasRoom self.old line }
+        ensures steps { Steps (meaning_at J.Job self.old.setting) self.old self.new c line (sink_view K.Sink out.old) (sink_view K.Sink out.new) result }
+        ensures untouched { c ≢ Run → (out.new ≡ out.old) × (meters.new ≡ meters.old) }
+        ensures works { RunWorks J.Meter.counts (state_of self.old) meters.old meters.new }
     {
         match c {
             Command::Run => self.answer(alloc, out, meters),
@@ -97,8 +89,6 @@ impl<J: Job> Session<J> {
         requires line { line ≤ 2 ^ 62 }
         requires accepted { accepted_of self.old < 2 ^ 63 }
         ensures changes { Changes (J.accepts self.old.setting) self.old self.new c line result }
-        ensures script { IsOfScript result }
-        ensures failed { IsErrOf result Halt.Write → ⊥ }
     {
         match self.window.apply(alloc, c, &self.job) {
             Ok(()) => Ok(()),
@@ -113,14 +103,10 @@ impl<J: Job> Session<J> {
         out: &mut K,
         meters: &mut MeterRow<J::Meter>,
     ) -> Result<(), Halt>
-        requires runs { self.old.runs < 2 ^ 63 }
-        requires meters { FitsMeters meters.old.lanes.items meters.old.parts.items }
-        ensures answers { AnswersRun (meaning (J.accepts self.old.setting) (J.emits self.old.setting) (J.joined self.old.setting) (J.text self.old.setting)) self.old self.new (K.held out.old) (K.held out.new) result }
+        requires { self.old.runs < 2 ^ 63 }
+        ensures answered { RunAnswered (meaning_at J.Job self.old.setting) self.old self.new (sink_view K.Sink out.old) (sink_view K.Sink out.new) result }
         ensures later { K.faults out.old ≤ K.faults out.new }
-        ensures failed { IsErrOf result Halt.Write → Rose (K.faults out.old) (K.faults out.new) }
-        ensures meters { FitsMeters meters.new.lanes.items meters.new.parts.items }
-        ensures counted { MetersRose J.Meter.maps J.Meter.merges J.Meter.joins meters.old.lanes.items meters.old.parts.items meters.new.lanes.items meters.new.parts.items }
-        ensures worked { WorkedWithin J.Meter.maps J.Meter.merges (length (present (state_of self.old))) (length (state_of self.old).leaves) meters.old.lanes.items meters.old.parts.items meters.new.lanes.items meters.new.parts.items }
+        ensures works { RunWorks J.Meter.counts (state_of self.old) meters.old meters.new }
     {
         let run = self.runs + 1;
         let bytes = match piece_of(

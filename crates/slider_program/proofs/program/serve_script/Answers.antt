@@ -1,46 +1,36 @@
 use Rattle.std.proofs.Common.{refl}
-use Rattle.slider_session.specs.Output.{meaning}
+use Rattle.job_laws.specs.Meanings.{meaning_of}
 use Rattle.window_manager.specs.Windows.{empty_window}
+use Rattle.slider_program.specs.Program.{outside, seen_of}
 use Rattle.slider_program.proofs.Statuses.{done_answered, fault_answered, read_answered, write_answered, memory_answered}
 use Rattle.slider_program.proofs.program.serve_script.Goals as goal
 
 pub returns-in-Ok-clause-answered : goal.returns-in-Ok-clause-answered
 returns-in-Ok-clause-answered g c =
-    let s = g.J.Job.setting c.args.job in
-    done_answered (meaning (g.J.Job.accepts s) (g.J.Job.emits s) (g.J.Job.joined s) (g.J.Job.text s)) (empty_window c.args.kind c.args.settings.places)
-    record { left = g.S.Source.left c.args.source.now; held = g.K.Sink.held c.args.out.now; said = g.E.Sink.held c.args.err.now; source_faults = g.S.Source.faults c.args.source.now; out_faults = g.K.Sink.faults c.args.out.now; err_faults = g.E.Sink.faults c.args.err.now }
-    record { left = g.S.Source.left c.serve.new.source; held = g.K.Sink.held c.serve.new.out; said = g.E.Sink.held c.args.err.now; source_faults = g.S.Source.faults c.serve.new.source; out_faults = g.K.Sink.faults c.serve.new.out; err_faults = g.E.Sink.faults c.args.err.now }
-    refl c.in-Ok.ensures.serves
+    let see = seen_of g.S.Source g.K.Sink g.E.Sink in
+    done_answered (meaning_of g.J.Job c.args.job) (empty_window c.args.kind c.args.settings.places) (see (outside c.args.source.now c.args.out.now c.args.err.now c.args.meters.now)) (see (outside c.serve.new.source c.serve.new.out c.args.err.now c.serve.new.meters)) refl c.in-Ok.ensures.serves.ends
 
 pub returns-in-Err-Script-clause-answered : goal.returns-in-Err-Script-clause-answered
 returns-in-Err-Script-clause-answered g c =
-    let s = g.J.Job.setting c.args.job in
+    let see = seen_of g.S.Source g.K.Sink g.E.Sink in
     let f = c.status_of_fault.ensures in
-    fault_answered (meaning (g.J.Job.accepts s) (g.J.Job.emits s) (g.J.Job.joined s) (g.J.Job.text s)) (empty_window c.args.kind c.args.settings.places)
-    record { left = g.S.Source.left c.args.source.now; held = g.K.Sink.held c.args.out.now; said = g.E.Sink.held c.args.err.now; source_faults = g.S.Source.faults c.args.source.now; out_faults = g.K.Sink.faults c.args.out.now; err_faults = g.E.Sink.faults c.args.err.now }
-    record { left = g.S.Source.left c.serve.new.source; held = g.K.Sink.held c.serve.new.out; said = g.E.Sink.held c.status_of_fault.new.err; source_faults = g.S.Source.faults c.serve.new.source; out_faults = g.K.Sink.faults c.serve.new.out; err_faults = g.E.Sink.faults c.status_of_fault.new.err }
-    c.status_of_fault.result c.in-Err-Script.fault.line c.in-Err-Script.fault.why (rw c.in-Err-Script.field-0-is at c.in-Err-Script.ensures.serves) f.status f.tried f.prefix
+    let ends = (rw c.in-Err-Script.field-0-is at c.in-Err-Script.ensures.serves).ends in
+    fault_answered (meaning_of g.J.Job c.args.job) (empty_window c.args.kind c.args.settings.places) (see (outside c.args.source.now c.args.out.now c.args.err.now c.args.meters.now)) (see (outside c.serve.new.source c.serve.new.out c.status_of_fault.new.err c.serve.new.meters)) c.status_of_fault.result c.in-Err-Script.fault.line c.in-Err-Script.fault.why ends.0 f.status f.tried f.prefix
 
 pub returns-in-Err-Read-clause-answered : goal.returns-in-Err-Read-clause-answered
 returns-in-Err-Read-clause-answered g c =
-    let s = g.J.Job.setting c.args.job in
-    read_answered (meaning (g.J.Job.accepts s) (g.J.Job.emits s) (g.J.Job.joined s) (g.J.Job.text s)) (empty_window c.args.kind c.args.settings.places)
-    record { left = g.S.Source.left c.args.source.now; held = g.K.Sink.held c.args.out.now; said = g.E.Sink.held c.args.err.now; source_faults = g.S.Source.faults c.args.source.now; out_faults = g.K.Sink.faults c.args.out.now; err_faults = g.E.Sink.faults c.args.err.now }
-    record { left = g.S.Source.left c.serve.new.source; held = g.K.Sink.held c.serve.new.out; said = g.E.Sink.held c.args.err.now; source_faults = g.S.Source.faults c.serve.new.source; out_faults = g.K.Sink.faults c.serve.new.out; err_faults = g.E.Sink.faults c.args.err.now }
-    refl ((rw c.in-Err-Read.field-0-is at c.in-Err-Read.ensures.read) refl) (rw c.in-Err-Read.field-0-is at c.in-Err-Read.ensures.serves)
+    let see = seen_of g.S.Source g.K.Sink g.E.Sink in
+    let ends = (rw c.in-Err-Read.field-0-is at c.in-Err-Read.ensures.serves).ends in
+    read_answered (meaning_of g.J.Job c.args.job) (empty_window c.args.kind c.args.settings.places) (see (outside c.args.source.now c.args.out.now c.args.err.now c.args.meters.now)) (see (outside c.serve.new.source c.serve.new.out c.args.err.now c.serve.new.meters)) refl ends.1 ends.0
 
 pub returns-in-Err-Write-clause-answered : goal.returns-in-Err-Write-clause-answered
 returns-in-Err-Write-clause-answered g c =
-    let s = g.J.Job.setting c.args.job in
-    write_answered (meaning (g.J.Job.accepts s) (g.J.Job.emits s) (g.J.Job.joined s) (g.J.Job.text s)) (empty_window c.args.kind c.args.settings.places)
-    record { left = g.S.Source.left c.args.source.now; held = g.K.Sink.held c.args.out.now; said = g.E.Sink.held c.args.err.now; source_faults = g.S.Source.faults c.args.source.now; out_faults = g.K.Sink.faults c.args.out.now; err_faults = g.E.Sink.faults c.args.err.now }
-    record { left = g.S.Source.left c.serve.new.source; held = g.K.Sink.held c.serve.new.out; said = g.E.Sink.held c.args.err.now; source_faults = g.S.Source.faults c.serve.new.source; out_faults = g.K.Sink.faults c.serve.new.out; err_faults = g.E.Sink.faults c.args.err.now }
-    refl (rw c.in-Err-Write.field-0-is at c.in-Err-Write.ensures.serves) ((rw c.in-Err-Write.field-0-is at c.in-Err-Write.ensures.write) refl)
+    let see = seen_of g.S.Source g.K.Sink g.E.Sink in
+    let ends = (rw c.in-Err-Write.field-0-is at c.in-Err-Write.ensures.serves).ends in
+    write_answered (meaning_of g.J.Job c.args.job) (empty_window c.args.kind c.args.settings.places) (see (outside c.args.source.now c.args.out.now c.args.err.now c.args.meters.now)) (see (outside c.serve.new.source c.serve.new.out c.args.err.now c.serve.new.meters)) refl ends.0 ends.1
 
 pub returns-in-Err-Mem-clause-answered : goal.returns-in-Err-Mem-clause-answered
 returns-in-Err-Mem-clause-answered g c =
-    let s = g.J.Job.setting c.args.job in
-    memory_answered (meaning (g.J.Job.accepts s) (g.J.Job.emits s) (g.J.Job.joined s) (g.J.Job.text s)) (empty_window c.args.kind c.args.settings.places)
-    record { left = g.S.Source.left c.args.source.now; held = g.K.Sink.held c.args.out.now; said = g.E.Sink.held c.args.err.now; source_faults = g.S.Source.faults c.args.source.now; out_faults = g.K.Sink.faults c.args.out.now; err_faults = g.E.Sink.faults c.args.err.now }
-    record { left = g.S.Source.left c.serve.new.source; held = g.K.Sink.held c.serve.new.out; said = g.E.Sink.held c.args.err.now; source_faults = g.S.Source.faults c.serve.new.source; out_faults = g.K.Sink.faults c.serve.new.out; err_faults = g.E.Sink.faults c.args.err.now }
-    refl (rw c.in-Err-Mem.field-0-is at c.in-Err-Mem.ensures.serves)
+    let see = seen_of g.S.Source g.K.Sink g.E.Sink in
+    let ends = (rw c.in-Err-Mem.field-0-is at c.in-Err-Mem.ensures.serves).ends in
+    memory_answered (meaning_of g.J.Job c.args.job) (empty_window c.args.kind c.args.settings.places) (see (outside c.args.source.now c.args.out.now c.args.err.now c.args.meters.now)) (see (outside c.serve.new.source c.serve.new.out c.args.err.now c.serve.new.meters)) refl ends

@@ -1,12 +1,11 @@
 use Rattle.std.proofs.Common.{◌≡◌, ◌≤◌, ◌-◌, ◌^◌, None}
+use Rattle.definitions.specs.Limits.{most_script}
 use Rattle.record_text.specs.Reading.{Sound}
 use Rattle.record_text.specs.Reader.{reading_of, source_of}
+use Rattle.job_laws.specs.Meanings.{meaning_at}
+use Rattle.job_laws.specs.Rows.{RowRose}
 use Rattle.window_manager.specs.Windows.{empty_window}
-use Rattle.slider_session.specs.Output.{meaning}
 use Rattle.slider_session.specs.Calls.{accepted_of}
-use Rattle.definitions.specs.Limits.{most_script}
-use Rattle.slider_session.specs.Serving.{FitsMeters}
-use Rattle.slider_session.specs.Meters.{MetersRose}
 use Rattle.slider_session.proofs.Walks.{Stands}
 use Rattle.slider_session.proofs.serving.serve.Given as goal
 
@@ -20,11 +19,10 @@ invariant-commands g l =
       setting : l.session.setting ≡ s;
       runs : l.session.runs ≤ (reading_of l.reader).line;
       accepted : accepted_of l.session ≤ (reading_of l.reader).line;
-      meters : FitsMeters l.meters.lanes.items l.meters.parts.items;
-      counted : MetersRose g.J.Meter.Meter.maps g.J.Meter.Meter.merges g.J.Meter.Meter.joins l.initial.meters.lanes.items l.initial.meters.parts.items l.meters.lanes.items l.meters.parts.items;
+      counted : RowRose g.J.Meter.Meter.counts l.fn.meters l.meters;
       source_later : g.S.Source.faults (source_of l.initial.reader).now ≤ g.S.Source.faults (source_of l.reader).now;
-      later : g.K.Sink.faults l.initial.out ≤ g.K.Sink.faults l.out;
-      stands : Stands (meaning (g.J.Job.accepts s) (g.J.Job.emits s) (g.J.Job.joined s) (g.J.Job.text s)) (empty_window l.fn.kind l.fn.settings.places) most_script (reading_of l.initial.reader) l.session (reading_of l.reader) (g.S.Source.left (source_of l.initial.reader).now) (g.S.Source.left (source_of l.reader).now) (g.K.Sink.held l.initial.out) (g.K.Sink.held l.out);
+      sink_later : g.K.Sink.faults l.initial.out ≤ g.K.Sink.faults l.out;
+      stands : Stands (meaning_at g.J.Job s) (empty_window l.fn.kind l.fn.settings.places) most_script (reading_of l.initial.reader) l.session (reading_of l.reader) (g.S.Source.left (source_of l.initial.reader).now) (g.S.Source.left (source_of l.reader).now) (g.K.Sink.held l.initial.out) (g.K.Sink.held l.out);
     }
 
 abbrev pub decreases-commands : goal.decreases-commands
