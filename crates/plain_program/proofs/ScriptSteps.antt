@@ -9,7 +9,8 @@ use Rattle.record_text.specs.declared.script_fault.ScriptFault.{ScriptFault}
 use Rattle.record_text.specs.Script.{Script, Ending, with_command}
 use Rattle.window_manager.specs.Windows.{WindowState, window_after, refusal_of}
 use Rattle.window_manager.specs.declared.fault.WindowFault.{WindowFault}
-use Rattle.slider_session.specs.Output.{Meaning, Outcome, after_bytes, ended_by, unless_refused, on_command, outcome_from, outcome_of}
+use Rattle.job_laws.specs.Meanings.{Meaning}
+use Rattle.slider_session.specs.Output.{Outcome, after_bytes, ended_by, unless_refused, on_command, outcome_from, outcome_of}
 use Rattle.slider_session.proofs.Stepping.{not_run}
 use Rattle.plain_program.specs.Plain.{ending_of_rest}
 use Rattle.plain_program.specs.Walk.{walked_from}

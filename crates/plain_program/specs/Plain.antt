@@ -1,8 +1,8 @@
 -- What the steps of the plain program make.
-use Rattle.std.specs.Prelude.{ℕ, List, [], ◌∷◌, Option, fold}
+use Rattle.std.specs.Prelude.{ℕ, List, [], ◌∷◌, Option}
 use Rattle.std.specs.declared.option.Option.TheVariants.{Some, None}
 use Rattle.std.specs.FinMap.Entries.{by_order}
-use Rattle.definitions.specs.Tables.{key_cmp, joined_all}
+use Rattle.definitions.specs.Tables.{key_cmp}
 use Rattle.record_text.specs.declared.script_fault.ScriptFault.{ScriptFault}
 use Rattle.record_text.specs.Script.{Ending, Faulty}
 
@@ -10,11 +10,6 @@ use Rattle.record_text.specs.Script.{Ending, Faulty}
 abbrev pub key_among : List ℕ → List (List ℕ) → List (List ℕ)
 key_among k [] = k ∷ []
 key_among k (q ∷ qs) = by_order (key_cmp k q) (k ∷ q ∷ qs) (q ∷ qs) (q ∷ key_among k qs)
-
--- A value that stands, where one does, joined with others behind it.
-abbrev pub joined_behind : {V : Type 0} → (V → V → V) → Option V → List V → Option V
-joined_behind join None vs = joined_all join vs
-joined_behind join (Some v) vs = Some (fold join v vs)
 
 -- How a script ends that came so far: at a fault, or as its rest ends.
 abbrev pub ending_of_rest : Option ScriptFault → Ending → Ending

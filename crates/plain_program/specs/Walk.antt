@@ -5,7 +5,8 @@ use Rattle.record_text.specs.declared.command.Command.{Command}
 use Rattle.record_text.specs.declared.script_fault.ScriptFault.{ScriptFault}
 use Rattle.record_text.specs.Script.{Ending, Faulty}
 use Rattle.window_manager.specs.Windows.{WindowState}
-use Rattle.slider_session.specs.Output.{Meaning, Outcome, after_bytes, on_command, outcome_from}
+use Rattle.job_laws.specs.Meanings.{Meaning}
+use Rattle.slider_session.specs.Output.{Outcome, after_bytes, on_command, outcome_from}
 use Rattle.plain_program.specs.declared.walk.PlainWalk.{PlainWalk}
 
 module _ {V : Type 0} (j : Meaning V) where

@@ -2,14 +2,15 @@
 ghost use Rattle.std.specs.Prelude.{◌≡◌, ◌++◌, ◌∷◌, [], OnOk};
 ghost use Rattle.definitions.specs.Tables.{HasGoodValues, reduced, tabulate};
 ghost use Rattle.definitions.specs.Answer.{lines_of};
-ghost use Rattle.slider_session.specs.Output.{meaning, piece};
+ghost use Rattle.job_laws.specs.Meanings.{meaning_of};
+ghost use Rattle.slider_session.specs.Output.{piece};
 ghost use Rattle.slider_session.specs.Accepted.{HoldsAccepted};
 
 use crate::keys::plain_keys;
 use crate::pairs::plain_pairs;
 use crate::reducing::plain_reduced;
 use crate::window::PlainWindow;
-use job_laws::{Job, Key};
+use job_laws::{Emit, Job, Key};
 use std::alloc::{AllocError, Global};
 
 /// Appends to `out` what a run writes over a window: its header, and the lines of each key in byte order.
@@ -21,15 +22,15 @@ pub(crate) fn plain_piece<J: Job>(
     out: &mut Vec<u8>,
     m: &mut J::Meter,
 ) -> Result<(), AllocError>
-    requires { HoldsAccepted (J.accepts (J.setting job.now)) window.now }
-    ensures { OnOk result (out.new.items ≡ out.old.items ++ piece (meaning (J.accepts (J.setting job.now)) (J.emits (J.setting job.now)) (J.joined (J.setting job.now)) (J.text (J.setting job.now))) run window.now) }
+    requires { HoldsAccepted (meaning_of J.Job job.now) window.now }
+    ensures { OnOk result (out.new.items ≡ out.old.items ++ piece (meaning_of J.Job job.now) run window.now) }
 {
     let pairs = plain_pairs(alloc, job, window.leaves.as_slice(), m)?;
-    let keys = plain_keys(alloc, pairs.pairs())?;
+    let keys = plain_keys(alloc, &pairs)?;
     let count = keys.len();
     let header = format!(in alloc; "# run {run} keys {count}\n")?;
     out.extend_from_slice(header.as_bytes())?;
-    write_keys(alloc, job, pairs.pairs(), &keys, out, m)?;
+    write_keys(alloc, job, &pairs, &keys, out, m)?;
     Ok(())
 }
 
@@ -37,7 +38,7 @@ pub(crate) fn plain_piece<J: Job>(
 fn write_keys<J: Job>(
     alloc: Global,
     job: &J,
-    pairs: &[(Key, J::Val)],
+    pairs: &Emit<J::Val>,
     keys: &[Key],
     out: &mut Vec<u8>,
     m: &mut J::Meter,
@@ -60,7 +61,7 @@ fn write_keys<J: Job>(
 fn write_key<J: Job>(
     alloc: Global,
     job: &J,
-    pairs: &[(Key, J::Val)],
+    pairs: &Emit<J::Val>,
     key: &Key,
     out: &mut Vec<u8>,
     m: &mut J::Meter,

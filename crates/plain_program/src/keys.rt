@@ -3,22 +3,26 @@ ghost use Rattle.std.specs.Prelude.{◌≡◌, IfOk, OnOk};
 ghost use Rattle.definitions.specs.Tables.{keys_of};
 ghost use Rattle.plain_program.specs.Plain.{key_among};
 
-use job_laws::Key;
+use job_laws::{Emit, Key};
 use std::alloc::{AllocError, Global};
 use std::cmp::Ordering;
 
 /// The distinct keys of pairs in byte order.
-pub(crate) fn plain_keys<V>(alloc: Global, pairs: &[(Key, V)]) -> Result<Vec<Key>, AllocError>
+pub(crate) fn plain_keys<V: Drop>(alloc: Global, pairs: &Emit<V>) -> Result<Vec<Key>, AllocError>
     ensures { IfOk result (λ keys. keys.items ≡ keys_of pairs.now) }
 {
     let mut keys = Vec::new(alloc);
-    let mut rest = pairs;
-    'pairs: while let [front @ .., last] = rest {
-        match add_key(&mut keys, &last.0) {
+    let mut left = pairs.len();
+    'pairs: while left > 0 {
+        left -= 1;
+        let key = match Key::of(alloc, pairs.pair(left).0) {
+            Ok(key) => key,
+            Err(e) => return Err(e),
+        };
+        match add_key(&mut keys, &key) {
             Ok(()) => (),
             Err(e) => return Err(e),
         }
-        rest = front;
     }
     Ok(keys)
 }

@@ -1,8 +1,9 @@
 //! All pairs of a window.
-ghost use Rattle.std.specs.Prelude.{◌≡◌, ◌++◌, All, IsTrue, IfOk, OnOk};
+ghost use Rattle.std.specs.Prelude.{◌≡◌, ◌++◌, All, IfOk, OnOk};
 ghost use Rattle.definitions.specs.Answer.{pairs_of};
+ghost use Rattle.job_laws.specs.Meanings.{AllAccepted, meaning_of};
 ghost use Rattle.marker_chunker.specs.Cuts.{joined};
-ghost use Rattle.slider_session.specs.Accepted.{AllAccepted};
+
 
 use job_laws::{Emit, Job};
 use record_text::Records;
@@ -15,7 +16,7 @@ pub(crate) fn plain_pairs<J: Job>(
     leaves: &[Records],
     m: &mut J::Meter,
 ) -> Result<Emit<J::Val>, AllocError>
-    requires { All (AllAccepted (J.accepts (J.setting job.now))) leaves.now }
+    requires { All (AllAccepted (meaning_of J.Job job.now)) leaves.now }
     ensures { IfOk result (λ pairs. pairs ≡ pairs_of (J.emits (J.setting job.now)) (joined leaves.now)) }
 {
     let mut pairs = Emit::new(alloc);
@@ -28,6 +29,7 @@ pub(crate) fn plain_pairs<J: Job>(
     Ok(pairs)
 }
 
+/// Appends the pairs of the records of a leaf.
 fn map_leaf<J: Job>(
     alloc: Global,
     job: &J,
@@ -35,7 +37,7 @@ fn map_leaf<J: Job>(
     out: &mut Emit<J::Val>,
     m: &mut J::Meter,
 ) -> Result<(), AllocError>
-    requires { AllAccepted (J.accepts (J.setting job.now)) leaf.now }
+    requires { AllAccepted (meaning_of J.Job job.now) leaf.now }
     ensures { OnOk result (out.new ≡ out.old ++ pairs_of (J.emits (J.setting job.now)) leaf.now) }
 {
     'records: for i in 0..leaf.len() {

@@ -1,16 +1,17 @@
 //! What the pairs of one key reduce to.
-ghost use Rattle.std.specs.Prelude.{◌≡◌, None, Some, IfOk, IfSome};
-ghost use Rattle.definitions.specs.Tables.{HasGoodValues, reduced};
+ghost use Rattle.std.specs.Prelude.{◌≡◌, Some, IfOk, IfSome};
+ghost use Rattle.std.specs.Ordering.{eq_by_cmp};
+ghost use Rattle.definitions.specs.Tables.{HasGoodValues, joined_found, key_cmp, reduced};
 
-use job_laws::{Job, Key};
+use job_laws::{Emit, Job, Key};
 use std::alloc::{AllocError, Global};
 use std::cmp::Ordering;
 
-/// The values that stand with a key, joined from left to right, or none where the key has no value.
+/// The values of a key, joined from left to right, or none if the key has no value.
 pub(crate) fn plain_reduced<J: Job>(
     alloc: Global,
     job: &J,
-    pairs: &[(Key, J::Val)],
+    pairs: &Emit<J::Val>,
     key: &Key,
     m: &mut J::Meter,
 ) -> Result<Option<J::Val>, AllocError>
@@ -19,20 +20,26 @@ pub(crate) fn plain_reduced<J: Job>(
     ensures good { IfOk result (λ value. IfSome value (J.good (J.setting job.now))) }
 {
     let mut value = None;
-    let mut rest = pairs;
-    'pairs: while let [pair, more @ ..] = rest {
-        if key.compare(&pair.0) == Ordering::Equal {
-            value = match joined_next(alloc, job, value, &pair.1, m) {
+    'pairs: for i in 0..pairs.len() {
+        let (bytes, next) = pairs.pair(i);
+        if is_key(key, bytes) {
+            value = match joined_next(alloc, job, value, next, m) {
                 Ok(joined) => Some(joined),
                 Err(e) => return Err(e),
             };
         }
-        rest = more;
     }
     Ok(value)
 }
 
-/// A value, where one stands, joined with the next one.
+/// Whether a key has these bytes.
+fn is_key(key: &Key, bytes: &[u8]) -> bool
+    ensures { result ≡ eq_by_cmp key_cmp key.now bytes.now }
+{
+    key.bytes().cmp(&bytes) == Ordering::Equal
+}
+
+/// A value, if there is one, joined with the next one.
 fn joined_next<J: Job>(
     alloc: Global,
     job: &J,
@@ -42,8 +49,7 @@ fn joined_next<J: Job>(
 ) -> Result<J::Val, AllocError>
     requires value { IfSome value (J.good (J.setting job.now)) }
     requires next { J.good (J.setting job.now) next.now }
-    ensures first { value ≡ None → IfOk result (λ v. v ≡ next.now) }
-    ensures later { IfSome value (λ old. IfOk result (λ v. v ≡ J.joined (J.setting job.now) old next.now)) }
+    ensures joined { IfOk result (λ v. Some v ≡ joined_found (J.joined (J.setting job.now)) value (Some next.now)) }
     ensures good { IfOk result (J.good (J.setting job.now)) }
 {
     match value {

@@ -2,8 +2,9 @@
 ghost use Rattle.std.specs.Prelude.{◌≡◌, ◌<◌, ◌≤◌, ◌+◌, ◌^◌, ℕ, None, All, IfOk};
 ghost use Rattle.record_text.specs.declared.command.Command.TheVariants.{Run};
 ghost use Rattle.record_text.specs.Script.{Ending, Done, Faulty, commands};
+ghost use Rattle.job_laws.specs.Meanings.{meaning_of};
 ghost use Rattle.window_manager.specs.Windows.{empty_window};
-ghost use Rattle.slider_session.specs.Output.{ended_by, meaning, outcome_of};
+ghost use Rattle.slider_session.specs.Output.{ended_by, outcome_of};
 ghost use Rattle.slider_session.specs.Accepted.{HoldsAccepted};
 ghost use Rattle.definitions.specs.Limits.{most_script};
 ghost use Rattle.plain_program.specs.Plain.{ending_of_rest};
@@ -36,7 +37,7 @@ pub fn plain_outcome<J: Job>(
     script: Vec<u8>,
     m: &mut J::Meter,
 ) -> Result<PlainOutcome, AllocError>
-    ensures { IfOk result (λ o. (o.written.items, ending_of_rest o.fault Done) ≡ outcome_of (meaning (J.accepts (J.setting job.now)) (J.emits (J.setting job.now)) (J.joined (J.setting job.now)) (J.text (J.setting job.now))) (empty_window kind places) (commands most_script script.items)) }
+    ensures { IfOk result (λ o. (o.written.items, ending_of_rest o.fault Done) ≡ outcome_of (meaning_of J.Job job.now) (empty_window kind places) (commands most_script script.items)) }
 {
     let script = plain_commands(alloc, script, MOST_SCRIPT)?;
     let mut walk = PlainWalk::new(alloc, kind, places);
@@ -57,8 +58,8 @@ fn walk_commands<J: Job>(
 ) -> Result<Option<ScriptFault>, AllocError>
     requires lines { All (λ c. c.1 < 2 ^ 62) commands.now }
     requires run { walk.old.run ≤ 1 }
-    requires accepted { HoldsAccepted (J.accepts (J.setting job.now)) walk.old.window }
-    ensures { IfOk result (λ fault. (ending : Ending) → (walk.new.written.items, ending_of_rest fault ending) ≡ walked_from (meaning (J.accepts (J.setting job.now)) (J.emits (J.setting job.now)) (J.joined (J.setting job.now)) (J.text (J.setting job.now))) walk.old commands.now ending) }
+    requires accepted { HoldsAccepted (meaning_of J.Job job.now) walk.old.window }
+    ensures { IfOk result (λ fault. (ending : Ending) → (walk.new.written.items, ending_of_rest fault ending) ≡ walked_from (meaning_of J.Job job.now) walk.old commands.now ending) }
 {
     let mut rest = commands;
     'commands: while let [c, more @ ..] = rest {
@@ -83,10 +84,10 @@ fn step<J: Job>(
 ) -> Result<Option<ScriptFault>, AllocError>
     requires line { line < 2 ^ 62 }
     requires run { walk.old.run < 2 ^ 63 }
-    requires accepted { HoldsAccepted (J.accepts (J.setting job.now)) walk.old.window }
-    ensures walks { IfOk result (λ fault. Walks (meaning (J.accepts (J.setting job.now)) (J.emits (J.setting job.now)) (J.joined (J.setting job.now)) (J.text (J.setting job.now))) walk.old walk.new c.now line fault) }
+    requires accepted { HoldsAccepted (meaning_of J.Job job.now) walk.old.window }
+    ensures walks { IfOk result (λ fault. Walks (meaning_of J.Job job.now) walk.old walk.new c.now line fault) }
     ensures run { walk.new.run ≤ walk.old.run + 1 }
-    ensures accepted { IfOk result (λ fault. fault ≡ None → HoldsAccepted (J.accepts (J.setting job.now)) walk.new.window) }
+    ensures accepted { IfOk result (λ fault. fault ≡ None → HoldsAccepted (meaning_of J.Job job.now) walk.new.window) }
 {
     match c {
         Command::Run => answer(alloc, job, walk, m),
@@ -104,10 +105,10 @@ fn change<J: Job>(
 ) -> Result<Option<ScriptFault>, AllocError>
     requires window { c.now ≡ Run → ⊥ }
     requires line { line < 2 ^ 62 }
-    requires accepted { HoldsAccepted (J.accepts (J.setting job.now)) walk.old.window }
-    ensures walks { IfOk result (λ fault. Walks (meaning (J.accepts (J.setting job.now)) (J.emits (J.setting job.now)) (J.joined (J.setting job.now)) (J.text (J.setting job.now))) walk.old walk.new c.now line fault) }
+    requires accepted { HoldsAccepted (meaning_of J.Job job.now) walk.old.window }
+    ensures walks { IfOk result (λ fault. Walks (meaning_of J.Job job.now) walk.old walk.new c.now line fault) }
     ensures run { walk.new.run ≡ walk.old.run }
-    ensures accepted { IfOk result (λ fault. fault ≡ None → HoldsAccepted (J.accepts (J.setting job.now)) walk.new.window) }
+    ensures accepted { IfOk result (λ fault. fault ≡ None → HoldsAccepted (meaning_of J.Job job.now) walk.new.window) }
 {
     match plain_apply(alloc, job, &mut walk.window, c)? {
         None => Ok(None),
@@ -144,8 +145,8 @@ fn answer<J: Job>(
     m: &mut J::Meter,
 ) -> Result<Option<ScriptFault>, AllocError>
     requires run { walk.old.run < 2 ^ 63 }
-    requires accepted { HoldsAccepted (J.accepts (J.setting job.now)) walk.old.window }
-    ensures walks { (line : ℕ) → IfOk result (λ fault. Walks (meaning (J.accepts (J.setting job.now)) (J.emits (J.setting job.now)) (J.joined (J.setting job.now)) (J.text (J.setting job.now))) walk.old walk.new Run line fault) }
+    requires accepted { HoldsAccepted (meaning_of J.Job job.now) walk.old.window }
+    ensures walks { (line : ℕ) → IfOk result (λ fault. Walks (meaning_of J.Job job.now) walk.old walk.new Run line fault) }
     ensures run { walk.new.run ≤ walk.old.run + 1 }
     ensures window { walk.new.window ≡ walk.old.window }
 {

@@ -4,9 +4,8 @@ use Rattle.std.specs.Prelude.{Option, IsTrue, slice_index_or}
 use Rattle.std.specs.declared.option.Option.TheVariants.{Some, None}
 use Rattle.std.specs.List.{list_any}
 use Rattle.std.proofs.lemmas.List.Elements.{All-take, All-get_or}
-use Rattle.std.specs.Ordering.{eq_by_cmp, is_eq}
-use Rattle.std.proofs.lemmas.Cmp.{nat_list_cmp_total, tied_itself}
-use Rattle.definitions.specs.Tables.{key_cmp, value_at, values_with, joined_all, reduced, entry_of, tabulate, keys_of, table_of, merged, HasGoodValues, IsGoodJoin}
+use Rattle.std.specs.Ordering.{eq_by_cmp}
+use Rattle.definitions.specs.Tables.{key_cmp, value_at, values_with, joined_all, reduced, entry_of, tabulate, keys_of, table_of, HasGoodValues, IsGoodJoin}
 use Rattle.definitions.specs.Answer.{pairs_of, lines_of}
 use Rattle.definitions.proofs.TableLaws.{eq_itself, table-append, listed-keys}
 use Rattle.definitions.proofs.AnswerLaws.{pairs_of-append}

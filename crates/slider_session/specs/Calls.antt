@@ -1,5 +1,5 @@
 -- What the two kinds of steps promise: a command that the window carries out or refuses, and a run.
-use Rattle.std.specs.Prelude.{◌≡◌, ◌<◌, ◌≤◌, ℕ, ◌+◌, ◌^◌, Bool, List, ◌++◌, Option, Result, Ok, Err, ◌⊎◌}
+use Rattle.std.specs.Prelude.{◌≡◌, ◌<◌, ◌≤◌, ℕ, ◌+◌, ◌^◌, Bool, List, ◌++◌, Result, Ok, Err, ◌⊎◌}
 use Rattle.std.specs.declared.option.Option.TheVariants.{Some, None}
 use Rattle.definitions.specs.Outside.{Rose, Told, GainsPrefix}
 use Rattle.job_laws.specs.Meanings.{Meaning}
@@ -31,8 +31,8 @@ abbrev pub accepted_of : SessionView → ℕ
 accepted_of h = h.window.slid.accepted
 
 -- There is room for one step more: numbers of lines, runs and accepted buckets are far from their ends.
-pub record HasRoom (h : SessionView) (line : ℕ) : Type 0 where
-  pub line : line ≤ 2 ^ 62
+pub record HasRoom (h : SessionView) (at : ℕ) : Type 0 where
+  pub line : at ≤ 2 ^ 62
   pub runs : h.runs < 2 ^ 63
   pub accepted : accepted_of h < 2 ^ 63
 

@@ -9,8 +9,8 @@ ghost use Rattle.slider_session.specs.Calls.{state_of, accepted_of, HasRoom, Cha
 ghost use Rattle.slider_session.specs.Serving.{RefusalIs};
 ghost use Rattle.slider_session.specs.Meters.{RunWorks};
 
-use crate::answering::piece_of;
 use crate::Halt;
+use crate::answering::piece_of;
 use job_laws::{Job, MeterRow};
 use record_text::{Command, Kind, ScriptFault, Why};
 use run_settings::Settings;

@@ -1,6 +1,7 @@
 use Rattle.std.proofs.Common.{◌≡◌, ◌++◌, List, ℕ, length, sym, ap, ◌∙◌, subst, append_assoc}
 use Rattle.definitions.specs.Tables.{HasGoodValues, keys_of, reduced, tabulate}
 use Rattle.definitions.specs.Answer.{pairs_of, lines_of, answer_of}
+use Rattle.job_laws.specs.Meanings.{meaning_of}
 use Rattle.marker_chunker.specs.Cuts.{joined}
 use Rattle.window_manager.specs.Windows.{WindowState, present}
 use Rattle.slider_session.specs.Output.{header}
@@ -8,11 +9,11 @@ use Rattle.plain_program.proofs.KeyLaws.{table-tabulated}
 use Rattle.plain_program.proofs.WindowLaws.{window_good}
 use Rattle.plain_program.proofs.answering.plain_piece.Goals as goal
 
-pub write_keys-requires-after_bounds : goal.write_keys-requires-after_bounds
-write_keys-requires-after_bounds g c κs within =
-    let laws = g.met.J.Job g.world.𝓛 g.world.𝓜 g.world.𝓡 ((λ s x. x), (λ x. x), (λ x. x), λ x. x) in
+pub write_keys-requires : goal.write_keys-requires
+write_keys-requires g c =
+    let laws = g.met.J.Job in
     let s = g.J.Job.setting c.args.job.now in
-    subst (HasGoodValues (g.J.Job.good s)) (sym (c.pairs-3.ensures ∙ c.in_ok-pairs.ensures ∙ ap (λ (l : List (List (List ℕ))). pairs_of (g.J.Job.emits s) (joined l)) (c.as_slice.ensures.value ∙ ap (λ (w : WindowState). w.leaves) c.window.view_is))) (window_good (g.J.Job.accepts s) (g.J.Job.emits s) (g.J.Job.good s) (laws.emits_good s) c.args.window.now.leaves c.requires.leaves)
+    subst (HasGoodValues (g.J.Job.good s)) (sym (c.in_ok-pairs.ensures ∙ ap (λ (l : List (List (List ℕ))). pairs_of (g.J.Job.emits s) (joined l)) (c.as_slice.ensures.value ∙ ap (λ (w : WindowState). w.leaves) c.window.view_is))) (window_good (meaning_of g.J.Job c.args.job.now) (g.J.Job.good s) (laws.emits_good s) c.args.window.now.leaves c.requires.leaves)
 
 pub returns : goal.returns
 returns g c =
@@ -20,13 +21,12 @@ returns g c =
     let join = g.J.Job.joined s in
     let all = pairs_of (g.J.Job.emits s) (present c.args.window.now) in
     let whole = ap (λ (l : List (List (List ℕ))). pairs_of (g.J.Job.emits s) (joined l)) (c.as_slice.ensures.value ∙ ap (λ (w : WindowState). w.leaves) c.window.view_is) in
-    let for_keys = c.pairs-2.ensures ∙ c.in_ok-pairs.ensures ∙ whole in
-    let for_lines = c.pairs-3.ensures ∙ c.in_ok-pairs.ensures ∙ whole in
-    let keys = c.in_ok-keys.ensures ∙ ap keys_of for_keys in
+    let pairs = c.in_ok-pairs.ensures ∙ whole in
+    let keys = c.in_ok-keys.ensures ∙ ap keys_of pairs in
     let count : c.len-count.result ≡ length (keys_of all) = c.len-count.ensures ∙ c.in_ok-keys.keys.ok.0 ∙ ap length keys in
     let listed = c.deref.ensures.value ∙ keys in
-    let lines : lines_of (g.J.Job.text s) (tabulate (reduced join c.pairs-3.result.now) c.deref.result.now) ≡ answer_of (g.J.Job.emits s) join (g.J.Job.text s) (present c.args.window.now)
-    = (λ i. lines_of (g.J.Job.text s) (tabulate (reduced join (for_lines i)) (listed i))) ∙ ap (lines_of (g.J.Job.text s)) (sym (table-tabulated join all)) in
+    let lines : lines_of (g.J.Job.text s) (tabulate (reduced join c.in_ok-pairs.pairs) c.deref.result.now) ≡ answer_of (g.J.Job.emits s) join (g.J.Job.text s) (present c.args.window.now)
+    = (λ i. lines_of (g.J.Job.text s) (tabulate (reduced join (pairs i)) (listed i))) ∙ ap (lines_of (g.J.Job.text s)) (sym (table-tabulated join all)) in
     let head : c.as_bytes.result.now ≡ header c.args.run (length (keys_of all)) = c.as_bytes.ensures.value ∙ c.in_ok-header.ensures.ok ∙ ap (header c.args.run) count in
     c.in_ok-write_keys.ensures
     ∙ (λ i. c.in_ok-extend_from_slice.ensures.items i ++ lines i)

@@ -1,7 +1,7 @@
 use Rattle.std.proofs.Common.{ap, ◌∙◌}
 use Rattle.record_text.specs.Script.{Done, Ending, commands}
 use Rattle.window_manager.specs.Windows.{empty_window}
-use Rattle.slider_session.specs.Output.{meaning}
+use Rattle.job_laws.specs.Meanings.{meaning_of}
 use Rattle.definitions.specs.Limits.{most_script}
 use Rattle.plain_program.specs.Plain.{ending_of_rest}
 use Rattle.plain_program.proofs.ScriptSteps.{first_fault, whole_walk}
@@ -9,8 +9,7 @@ use Rattle.plain_program.proofs.walking.plain_outcome.Goals as goal
 
 pub returns : goal.returns
 returns g c =
-    let s = g.J.Job.setting c.args.job.now in
-    let j = meaning (g.J.Job.accepts s) (g.J.Job.emits s) (g.J.Job.joined s) (g.J.Job.text s) in
+    let j = meaning_of g.J.Job c.args.job.now in
     let fault = c.in_ok-script.script.fault in
     let rest = ending_of_rest fault Done in
     let ending = ap (λ f. ending_of_rest f Done) c.or.ensures ∙ first_fault c.in_ok-refused.refused fault Done in

@@ -1,18 +1,17 @@
 use Rattle.std.proofs.Common.{◌≡◌, ◌≤◌, ◌<◌, ◌+◌, ◌^◌, length, All}
 use Rattle.record_text.specs.Script.{Ending}
 use Rattle.slider_session.specs.Accepted.{HoldsAccepted}
-use Rattle.slider_session.specs.Output.{meaning}
+use Rattle.job_laws.specs.Meanings.{meaning_of}
 use Rattle.plain_program.specs.Walk.{walked_from}
 use Rattle.plain_program.proofs.walking.walk_commands.Given as goal
 
 abbrev pub invariant-commands : goal.invariant-commands
 invariant-commands g l =
-    let s = g.J.Job.setting l.job in
-    let j = meaning (g.J.Job.accepts s) (g.J.Job.emits s) (g.J.Job.joined s) (g.J.Job.text s) in
+    let j = meaning_of g.J.Job l.job in
     record {
       lines : All (λ c. c.1 < 2 ^ 62) l.rest;
       run : l.walk.run + length l.rest ≤ 1 + length l.commands;
-      accepted : HoldsAccepted (g.J.Job.accepts s) l.walk.window;
+      accepted : HoldsAccepted j l.walk.window;
       walked : (ending : Ending) → walked_from j l.walk l.rest ending ≡ walked_from j l.initial.walk l.commands ending;
     }
 

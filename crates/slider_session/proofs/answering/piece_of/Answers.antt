@@ -6,12 +6,13 @@ use Rattle.definitions.proofs.TableLaws.{IsRising-table}
 use Rattle.sheets.specs.United.{Apart, tables_of, united}
 use Rattle.sheets.proofs.PartUnion.{parts-apart, parts-united, sheets-parts}
 use Rattle.window_manager.specs.Windows.{present}
-use Rattle.slider_session.specs.Output.{meaning, header}
+use Rattle.job_laws.specs.Meanings.{meaning_of}
+use Rattle.slider_session.specs.Output.{header}
 use Rattle.slider_session.proofs.Tables.{piece_is}
 use Rattle.slider_session.proofs.answering.piece_of.Goals as goal
 
 pub answer_of-requires-clause-apart : goal.answer_of-requires-clause-apart
-answer_of-requires-clause-apart g c κs o =
+answer_of-requires-clause-apart g c =
     let s = g.J.Job.setting c.args.job.now in
     let table = table_of (g.J.Job.joined s) (pairs_of (g.J.Job.emits s) (present c.args.window.now.window)) in
     let roots = c.in_ok-roots.roots.items in
@@ -20,7 +21,7 @@ answer_of-requires-clause-apart g c κs o =
 pub returns-clause-piece : goal.returns-clause-piece
 returns-clause-piece g c =
     let s = g.J.Job.setting c.args.job.now in
-    let j = meaning (g.J.Job.accepts s) (g.J.Job.emits s) (g.J.Job.joined s) (g.J.Job.text s) in
+    let j = meaning_of g.J.Job c.args.job.now in
     let w = c.args.window.now.window in
     let table = table_of j.joined (pairs_of j.emits (present w)) in
     let roots = c.in_ok-roots.roots.items in

@@ -7,7 +7,7 @@ use Rattle.job_laws.specs.Meanings.{meaning_at, meaning_of}
 use Rattle.job_laws.proofs.RowLaws.{row_same, row_then}
 use Rattle.window_manager.specs.Windows.{empty_window}
 use Rattle.slider_session.specs.Calls.{state_of, accepted_of, Steps}
-use Rattle.slider_session.specs.Devices.{DeviceView, source_view, sink_view}
+use Rattle.slider_session.specs.Devices.{source_view, sink_view}
 use Rattle.slider_session.specs.Serving.{Serves}
 use Rattle.slider_session.proofs.Stepping.{step_comes, step_later}
 use Rattle.slider_session.proofs.Walks.{begins, nothing_yet, goes_on, at_close, at_stop, at_halt}
