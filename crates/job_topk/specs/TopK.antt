@@ -1,17 +1,13 @@
 -- The job `topk`: the first members of each group, score falling.
-use Rattle.std.specs.Prelude.{◌≤◌, ℕ, Bool, ◌&&◌, max, nat_le, List, [], ◌∷◌, ◌++◌, length, take, decimal, Option, Some, None}
+use Rattle.std.specs.Prelude.{◌≤◌, ℕ, max, List, [], ◌∷◌, ◌++◌, length, take, decimal, Option, Some, None}
 use Rattle.std.specs.declared.cmp.Ordering.{Ordering}
 use Rattle.std.specs.List.{flat_map}
 use Rattle.std.specs.Ordering.{nat_cmp, on, then_cmp, flip_args}
 use Rattle.definitions.specs.Numbers.{digits_value}
 use Rattle.definitions.specs.Tables.{key_cmp}
-use Rattle.job_laws.specs.Forms.{split_at_tab, is_topk_record}
+use Rattle.job_laws.specs.Forms.{split_at_tab}
 use Rattle.job_laws.specs.Encoding.{be32}
 use Rattle.job_topk.specs.Merging.{in_order, IsOrdered}
-
--- Topk accepts the records of its form.
-abbrev pub topk_accepts : List ℕ → Bool
-topk_accepts r = nat_le (length r) 65535 && is_topk_record r
 
 -- The group with the list of score and item alone, where both TABs are there.
 abbrev pub member_pair : List ℕ → Option (List ℕ × List ℕ) → List (List ℕ × List (ℕ × List ℕ))
@@ -39,9 +35,17 @@ topk_joined k a b = take k (in_order member_cmp a b)
 abbrev pub topk_good : ℕ → List (ℕ × List ℕ) → Type 0
 topk_good k v = (length v ≤ max k 1) × IsOrdered member_cmp v
 
+-- A score between two TABs.
+abbrev pub score_text : ℕ → List ℕ
+score_text score = 9 ∷ decimal score ++ 9 ∷ []
+
+-- An item with its LF.
+abbrev pub item_text : List ℕ → List ℕ
+item_text item = item ++ 10 ∷ []
+
 -- The group, TAB, the score, TAB, the item, LF.
 abbrev pub member_text : List ℕ → ℕ × List ℕ → List ℕ
-member_text group m = group ++ (9 ∷ decimal m.0 ++ (9 ∷ m.1 ++ 10 ∷ []))
+member_text group m = group ++ (score_text m.0 ++ item_text m.1)
 
 -- That line for each member in order.
 abbrev pub topk_text : List ℕ → List (ℕ × List ℕ) → List ℕ

@@ -26,8 +26,9 @@ fn pairs<J: Job>(
         }
     }
     let mut text = Vec::new(alloc);
-    for (key, value) in out.pairs() {
-        text.extend_from_slice(key.bytes())?;
+    for i in 0..out.len() {
+        let (key, value) = out.pair(i);
+        text.extend_from_slice(key)?;
         J::encode(value, &mut text)?;
         text.push(b';')?;
     }

@@ -1,11 +1,15 @@
-//! Keeps the highest scores.
-ghost use Rattle.std.specs.Prelude.{◌≡◌, ◌≤◌, ◌++◌, ◌↔◌, IsTrue, IfOk, OnOk, OnErr, SomeIff};
+//! The job that keeps the members of the highest scores of each group.
+ghost use Rattle.std.specs.Prelude.{◌≡◌, ◌≤◌, ◌++◌, ◌↔◌, IsTrue, OnOk, OnErr, SomeIff};
+ghost use Rattle.definitions.specs.Limits.{most_members};
 ghost use Rattle.definitions.specs.Outside.{GainsPrefix};
-ghost use Rattle.job_topk.specs.TopK.{topk_accepts, topk_emits, topk_joined, topk_good, member_text, topk_text, member_encoded, topk_encoded};
+ghost use Rattle.job_laws.specs.Forms.{is_topk_record};
+ghost use Rattle.job_topk.specs.TopK.{topk_emits, topk_joined, topk_good, score_text, item_text, member_text, topk_text, member_encoded, topk_encoded};
 ghost use Rattle.job_topk.specs.Laws.{topk_emits_good, topk_join_laws, topk_joined_comm};
 
 use crate::Members;
 use crate::merge::merge_first;
+use definitions::{MOST_MEMBERS, MOST_RECORD};
+use itoa::Buffer;
 use job_laws::{Emit, Job, Key, Meter, Swaps, be32_bytes, tab_at};
 use jobs_basic::Bytes;
 use record_text::parse_number;
@@ -32,9 +36,9 @@ impl<M: Meter> Model for TopK<M> {
 impl<M: Meter> TopK<M> {
     /// The job that keeps `k` members; `None` exactly where `k` is outside 1 to 1000.
     pub fn new(k: u32) -> Option<TopK<M>>
-        ensures { SomeIff result ((1 ≤ k) × (k ≤ 1000)) k }
+        ensures { SomeIff result ((1 ≤ k) × (k ≤ most_members)) k }
     {
-        if k < 1 || k > 1000 {
+        if k < 1 || k > MOST_MEMBERS {
             return None;
         }
         Some(TopK {
@@ -44,33 +48,56 @@ impl<M: Meter> TopK<M> {
     }
 }
 
-// The line of a group with one member.
-fn put_line(
-    alloc: Global,
-    group: &[u8],
-    member: &(u32, Bytes),
-    lines: &mut Vec<u8>,
-) -> Result<(), AllocError>
-    ensures { OnOk result (lines.new.items ≡ lines.old.items ++ member_text group.now member.now) }
+// Appends a score between two TABs; where memory runs out, a prefix of it.
+fn put_score(score: u32, out: &mut Vec<u8>) -> Result<(), AllocError>
+    ensures ok { OnOk result (out.new.items ≡ out.old.items ++ score_text score) }
+    ensures err { OnErr result (GainsPrefix (score_text score) out.old.items out.new.items) }
 {
-    let score = member.0;
-    let field = format!(in alloc; "\t{score}\t")?;
-    lines.extend_from_slice(group)?;
-    lines.extend_from_slice(field.as_bytes())?;
-    lines.extend_from_slice(member.1.bytes())?;
-    lines.push(b'\n')?;
+    let mut number = Buffer::new();
+    out.push(b'\t')?;
+    out.extend_from_slice(number.format(score).as_bytes())?;
+    out.push(b'\t')?;
     Ok(())
 }
 
-// The lines of a group with its members.
-fn topk_lines(alloc: Global, group: &[u8], members: &[(u32, Bytes)]) -> Result<Vec<u8>, AllocError>
-    ensures { IfOk result (λ lines. lines.items ≡ topk_text group.now members.now) }
+// Appends an item with its LF; where memory runs out, a prefix of them.
+fn put_item(item: &[u8], out: &mut Vec<u8>) -> Result<(), AllocError>
+    ensures ok { OnOk result (out.new.items ≡ out.old.items ++ item_text item.now) }
+    ensures err { OnErr result (GainsPrefix (item_text item.now) out.old.items out.new.items) }
 {
-    let mut lines = Vec::new(alloc);
-    'members: for member in members {
-        put_line(alloc, group, member, &mut lines)?;
+    out.extend_from_slice(item)?;
+    out.push(b'\n')?;
+    Ok(())
+}
+
+// Appends the line of a group with one member; where memory runs out, a prefix of it.
+fn put_member(group: &[u8], member: &(u32, Bytes), out: &mut Vec<u8>) -> Result<(), AllocError>
+    ensures ok { OnOk result (out.new.items ≡ out.old.items ++ member_text group.now member.now) }
+    ensures err { OnErr result (GainsPrefix (member_text group.now member.now) out.old.items out.new.items) }
+{
+    out.extend_from_slice(group)?;
+    match put_score(member.0, out) {
+        Ok(()) => (),
+        Err(e) => return Err(e),
     }
-    Ok(lines)
+    match put_item(member.1.bytes(), out) {
+        Ok(()) => Ok(()),
+        Err(e) => Err(e),
+    }
+}
+
+// Appends the lines of a group with its members; where memory runs out, a prefix of them.
+fn put_lines(group: &[u8], members: &[(u32, Bytes)], out: &mut Vec<u8>) -> Result<(), AllocError>
+    ensures ok { OnOk result (out.new.items ≡ out.old.items ++ topk_text group.now members.now) }
+    ensures err { OnErr result (GainsPrefix (topk_text group.now members.now) out.old.items out.new.items) }
+{
+    'members: for member in members {
+        match put_member(group, member, out) {
+            Ok(()) => (),
+            Err(e) => return Err(e),
+        }
+    }
+    Ok(())
 }
 
 // Whether two members are equal.
@@ -98,7 +125,7 @@ impl<M: Meter> Job for TopK<M> {
 
     ghost setting = { λ k. k };
 
-    ghost accepts = { λ _ r. topk_accepts r };
+    ghost accepts = { λ _ r. is_topk_record r };
 
     ghost emits = { λ _ r. topk_emits r };
 
@@ -116,7 +143,7 @@ impl<M: Meter> Job for TopK<M> {
 
     fn accepts(&self, r: &[u8]) -> bool {
         let at = tab_at(r);
-        if r.len() > 65535 || at == 0 || at == r.len() {
+        if r.len() > MOST_RECORD || at == 0 || at == r.len() {
             return false;
         }
         let behind = &r[at + 1..];
@@ -138,7 +165,7 @@ impl<M: Meter> Job for TopK<M> {
         if let Some(score) = parse_number(&behind[..end]) {
             let item = Bytes::of(alloc, &behind[end + 1..])?;
             let member = Members::of(alloc, score, item)?;
-            out.put(alloc, &r[..at], member)?;
+            out.put(&r[..at], member)?;
         }
         Ok(())
     }
@@ -156,13 +183,12 @@ impl<M: Meter> Job for TopK<M> {
 
     fn line(
         &self,
-        alloc: Global,
+        _alloc: Global,
         k: &Key,
         v: &Members,
         out: &mut Vec<u8>,
     ) -> Result<(), AllocError> {
-        let lines = topk_lines(alloc, k.bytes(), v.members())?;
-        out.extend_from_slice(lines.as_slice())
+        put_lines(k.bytes(), v.members(), out)
     }
 
     fn copy(alloc: Global, v: &Members) -> Result<Members, AllocError> {
