@@ -1,6 +1,6 @@
 use Rattle.std.proofs.Common.{◌≡◌, drop}
 use Rattle.std.specs.VecDeque.{deque_capacity}
-use Rattle.window_manager.proofs.leaves.forget_front.Given as goal
+use Rattle.window_manager.proofs.leaves.forget_oldest.Given as goal
 
 abbrev pub invariant-leaves : goal.invariant-leaves
 invariant-leaves l = record {

@@ -3,7 +3,7 @@ use Rattle.definitions.specs.Records.{text_of}
 use Rattle.window_manager.specs.Windows.{Leaf}
 use Rattle.window_manager.specs.Buckets.{text_size}
 use Rattle.window_manager.proofs.TextLaws.{size_front, size_cut}
-use Rattle.window_manager.proofs.leaves.text_of_front.Goals as goal
+use Rattle.window_manager.proofs.leaves.text_of_oldest.Goals as goal
 
 pub overflow_add-size : goal.overflow_add-size
 overflow_add-size c =
