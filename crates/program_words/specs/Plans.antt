@@ -1,7 +1,7 @@
 -- What the words of the command line ask for, and what they are refused for.
 use Rattle.std.specs.Prelude.{◌≤◌, ℕ, Bool, true, false, ◌&&◌, if◌then◌else◌, nat_le, List, codes, bytes_eq, Option, option_map, Result, Ok, Err}
 use Rattle.std.specs.declared.option.Option.TheVariants.{Some, None}
-use Rattle.definitions.specs.Limits.{most_parts, most_places}
+use Rattle.definitions.specs.Limits.{most_members, most_parts, most_places}
 use Rattle.definitions.specs.Numbers.{is_number, digits_value}
 use Rattle.record_text.specs.declared.kind.Kind.{Kind}
 use Rattle.record_text.specs.declared.kind.Kind.TheVariants as Kinds
@@ -77,7 +77,7 @@ pub record Given : Type 0 where
 abbrev pub plan_by : Given → Result Plan Field
 plan_by v =
     demand fields.Job (given job_named v.job) (λ job.
-    demand fields.K (number_or 10 1000 v.k) (λ k.
+    demand fields.K (number_or 10 most_members v.k) (λ k.
     demand fields.Tree (given tree_named v.tree) (λ tree.
     demand fields.Buckets (number_or 24 most_places v.buckets) (λ places.
     demand fields.Parts (number_or 1 most_parts v.parts) (λ parts.
@@ -109,7 +109,7 @@ plan_of words = demand fields.Words (items_of words) (λ items. plan_by (given_b
 
 -- The numbers of a plan are within their limits.
 pub record IsWithin (plan : Plan) : Type 0 where
-  pub k : (1 ≤ plan.k) × (plan.k ≤ 1000)
+  pub k : (1 ≤ plan.k) × (plan.k ≤ most_members)
   pub settings : AreWithin plan.settings
 
 -- The kind of window that a tree is for.

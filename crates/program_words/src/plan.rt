@@ -2,7 +2,7 @@
 ghost use Rattle.std.specs.Prelude.{◌≡◌, ◌≤◌, IfOk, IfSome, option_map};
 ghost use Rattle.program_words.specs.Plans.{job_named, tree_named, number_within, number_or, seed_or_none, plan_by, values_as_text, kind_of, IsWithin};
 
-use definitions::{MOST_PARTS, MOST_PLACES};
+use definitions::{MOST_MEMBERS, MOST_PARTS, MOST_PLACES};
 use record_text::{Kind, parse_number};
 use run_settings::Settings;
 
@@ -42,7 +42,7 @@ impl TreeName {
 #[derive(Clone, Copy, Debug, PartialEq, Eq)]
 pub struct Plan {
     pub job: JobName,
-    /// How many members `topk` keeps, from 1 to 1000.
+    /// How many members `topk` keeps, from 1 to [`MOST_MEMBERS`].
     pub k: u32,
     pub tree: TreeName,
     /// How the script is worked. `places` is the number of `--buckets`.
@@ -150,7 +150,7 @@ pub fn plan_by(values: Values<'_>) -> Result<Plan, Field>
     let Some(job) = job_named(name) else {
         return Err(Field::Job);
     };
-    let Some(k) = number_or(10, 1000, values.k) else {
+    let Some(k) = number_or(10, MOST_MEMBERS, values.k) else {
         return Err(Field::K);
     };
     let Some(name) = values.tree else {
