@@ -4,7 +4,6 @@ ghost use Rattle.definitions.specs.Answer.{pairs_of};
 ghost use Rattle.job_laws.specs.Meanings.{AllAccepted, meaning_of};
 ghost use Rattle.marker_chunker.specs.Cuts.{joined};
 
-
 use job_laws::{Emit, Job};
 use record_text::Records;
 use std::alloc::{AllocError, Global};

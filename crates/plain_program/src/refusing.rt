@@ -64,7 +64,9 @@ impl PlainWindow {
         ensures { IfOk result (λ many. many ≡ asks_too_many self.now c.now) }
     {
         match c {
-            Command::Bucket(_) => Ok(self.kind != Kind::Circle && self.leaves.len() >= MOST_BUCKETS),
+            Command::Bucket(_) => Ok(
+                self.kind != Kind::Circle && self.leaves.len() >= MOST_BUCKETS,
+            ),
             Command::Drop(n) => Ok(self.leaves.len() < *n as usize),
             Command::Late { place, .. } => Ok(self.leaves.len() <= *place as usize),
             Command::Edit { at, del, ins } => {
