@@ -1,8 +1,8 @@
 //! The scripts against those that a Python program wrote by the rules of `docs/formats/generator.md`.
 use crate::{Draws, generate};
 use program_words::{JobName, Plan, TreeName};
-use sha2::{Digest, Sha256};
 use run_settings::Settings;
+use sha2::{Digest, Sha256};
 use std::alloc::{AllocError, Global};
 use std::test::Fail;
 

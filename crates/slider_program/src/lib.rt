@@ -3,12 +3,12 @@
 #![tactic(auto)]
 
 mod basic_jobs;
-mod new_meters;
+mod meters;
 mod program;
 mod summary;
 mod words;
 
 pub use basic_jobs::BasicJobs;
-pub use new_meters::new_meters;
+pub use meters::new_meters;
 pub use program::run_program;
 pub use words::line_of_fault;

@@ -1,5 +1,5 @@
 use Rattle.std.proofs.Common.{◌≡◌, ◌≤◌, ◌-◌, length}
-use Rattle.slider_program.proofs.new_meters.new_meters.Given as goal
+use Rattle.slider_program.proofs.meters.new_meters.Given as goal
 
 abbrev pub invariant-meters : goal.invariant-meters
 invariant-meters l = record { same : length l.lanes.items ≡ length l.parts.items; most : length l.parts.items ≤ 16 }
