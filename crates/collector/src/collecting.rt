@@ -1,4 +1,4 @@
-//! The collector and its sweeps.
+//! The collector and its sweeps: one call for one shard, at the horizon that the run and `keep` make.
 ghost use Rattle.std.specs.Prelude.{◌≡◌, ◌<◌, length, IfOk, IfErr};
 ghost use Rattle.memo_core.specs.declared.event.Event.TheVariants.{Sweep};
 ghost use Rattle.pin_table.specs.Known.{Gained, AtShard};

@@ -1,3 +1,4 @@
+//! A collector beside one caller: horizons, and sweeps that spare what is held.
 ghost use Rattle.std.specs.Prelude.{◌≡◌, ◌+◌, ◌*◌, ◌%◌, ◌<◌, ◌∷◌, [], vec_len, All};
 
 use super::*;

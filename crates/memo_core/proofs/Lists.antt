@@ -151,10 +151,6 @@ pub DistinctDigests-append : (es : List CoreEntry) (e : CoreEntry) → DistinctD
 DistinctDigests-append [] e h n = (refl, tt)
 DistinctDigests-append (x ∷ es) e h n = (has_digest-append x.digest es e h.0 (nat_list_eq_equiv.symm e.digest x.digest ∙ or_left (bytes_eq x.digest e.digest) _ n), DistinctDigests-append es e h.1 (or_right (bytes_eq x.digest e.digest) _ n))
 
-and_left : (a b : Bool) → (a && b) ≡ true → a ≡ true
-and_left true b h = refl
-and_left false b h = cc
-
 pub live_from_names : (id : ℕ) (d : List ℕ) (es : List CoreEntry) → list_any (names id d) es ≡ true → is_some (find_id id es) ≡ true
 live_from_names id d [] h = cc
 live_from_names id d (e ∷ es) h = names_case (e.id == id) (bytes_eq e.digest d) h (live_from_names id d es)

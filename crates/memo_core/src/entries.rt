@@ -1,4 +1,4 @@
-//! The live entries of a state.
+//! The live entries of a state, in the order of their ids: found by id or by digest, pinned, released and swept in walks over them.
 ghost use Rattle.std.specs.Prelude.{◌≡◌, ◌++◌, ◌∷◌, [], ◌<◌, ◌==◌, ◌↔◌, OnOk, OnErr, IfOk, IsTrue, Some, length, slice_get, filter, not};
 ghost use Rattle.std.specs.List.{list_any};
 

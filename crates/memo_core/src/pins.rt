@@ -1,4 +1,4 @@
-//! The pins of an entry.
+//! The pins of an entry: a list of callers, each as often as it holds the entry, of which a release takes the first.
 ghost use Rattle.std.specs.Prelude.{◌≡◌, ◌++◌, ◌∷◌, [], ◌<◌, ◌==◌, ◌↔◌, OnOk, OnErr, IfOk, IsTrue, Some, length, slice_get, position};
 ghost use Rattle.std.specs.List.{list_any};
 ghost use Rattle.memo_core.specs.Pinned.{without_first};

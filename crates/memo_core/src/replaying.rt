@@ -1,4 +1,4 @@
-//! What a history leads to.
+//! What a history leads to: its events applied one after another from the empty state, up to the first that is not legal there.
 ghost use Rattle.std.specs.Prelude.{◌≡◌, IfOk};
 ghost use Rattle.memo_core.specs.Machine.{replayed};
 

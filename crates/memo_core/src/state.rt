@@ -1,4 +1,4 @@
-//! The state of the machine.
+//! The state of the machine, its live entries and the next id, and what one event makes of it.
 ghost use Rattle.std.specs.Prelude.{◌≡◌, IfOk};
 
 use crate::entries::{CoreEntry, Entries};

@@ -1,3 +1,4 @@
+//! Histories of a few events: what they lead to, and where they stop being legal.
 use super::*;
 use std::test::Fail;
 

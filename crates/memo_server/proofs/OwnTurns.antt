@@ -13,7 +13,7 @@ use Rattle.memo_core.proofs.HistoryLaws.{pinned_is_live}
 use Rattle.turn_lock.specs.Under.{under}
 use Rattle.memo_server.specs.declared.turn.Turn.{Turn}
 use Rattle.memo_server.specs.declared.turn.Turn.TheVariants.{Made, Empty}
-use Rattle.memo_server.specs.Callers.{caller_of, gives, frees, kept, whose, own}
+use Rattle.memo_server.specs.Callers.{caller_of, gives, frees, own_held, whose, own}
 use Rattle.memo_server.specs.Histories.{events}
 
 and_false : (b : Bool) → false ≡ (b && false)
@@ -47,8 +47,8 @@ events-under c [] = refl
 events-under c (Made e ∷ ts) = elim (caller_of e == c) as (λ b. events (cond b (Made e ∷ under whose c ts) (under whose c ts)) ≡ cond b (e ∷ own c (events ts)) (own c (events ts))) [ true ↦ ap (λ es. e ∷ es) (events-under c ts) | false ↦ events-under c ts ]
 events-under c (Empty ∷ ts) = events-under c ts
 
-pub kept-own : (c id : ℕ) (es : List Event) → kept id (own c es) ≡ held c id es
-kept-own c id es = rw (count-own c (gives id) (gives_pin c id) (gives-of c id) es, count-own c (frees id) (is_release c id) (frees-of c id) es) refl
+pub own_held-own : (c id : ℕ) (es : List Event) → own_held id (own c es) ≡ held c id es
+own_held-own c id es = rw (count-own c (gives id) (gives_pin c id) (gives-of c id) es, count-own c (frees id) (is_release c id) (frees-of c id) es) refl
 
 pub pin-there : (c id : ℕ) (es : List CoreEntry) (x : CoreEntry) → find_id id es ≡ Some x → 0 < how_many (λ y. y == c) x.pins → list_any (has_pin c id) es ≡ true
 pin-there c id [] x found h = cc
@@ -67,8 +67,8 @@ pin-there c id (e ∷ es) x found h = entry_case (e.id == id) refl found (pin-th
     entry_case false is found ih = rw is (ih found h)
 
 -- a caller that holds an id by its own turns has a pin on the live entry
-pub may-release : (c id : ℕ) (ts : List Turn) (s : CoreState) → replayed (events ts) ≡ Some s → 0 < kept id (events (under whose c ts)) → list_any (has_pin c id) s.entries ≡ true
+pub may-release : (c id : ℕ) (ts : List Turn) (s : CoreState) → replayed (events ts) ≡ Some s → 0 < own_held id (events (under whose c ts)) → list_any (has_pin c id) s.entries ≡ true
 may-release c id ts s is h =
-    let positive : 0 < held c id (events ts) = subst (λ n. 0 < n) (ap (kept id) (events-under c ts) ∙ kept-own c id (events ts)) h in
+    let positive : 0 < held c id (events ts) = subst (λ n. 0 < n) (ap (own_held id) (events-under c ts) ∙ own_held-own c id (events ts)) h in
     let live = pinned_is_live (events ts) s is c id positive in
     pin-there c id s.entries live.0 live.1 (subst (λ n. 0 < n) (sym live.2) positive)

@@ -13,7 +13,7 @@ use Rattle.memo_server.specs.declared.met.Asked.{Asked}
 use Rattle.memo_server.specs.declared.met.Asked.TheVariants.{Look as LookAsked, Keep as KeepAsked}
 use Rattle.memo_server.specs.Asks.{same_event, other_event}
 use Rattle.memo_server.specs.Views.{LiveView, EntryView, AreKeyed, entry_view, entry_of, live_view, at_live, update_at, pinned_view, released_view, is_stale, total_pins, found, core_entries, core_state}
-use Rattle.memo_server.specs.Shards.{ShardView, Keeps}
+use Rattle.memo_server.specs.Shards.{ShardView, ShardFits}
 use Rattle.memo_server.specs.Calls.{IsLiveEntry}
 use Rattle.memo_server.proofs.Places.{same_some, has-none, names-at, update-live, one-place, rising-places}
 use Rattle.memo_server.proofs.Entries.{core-pinned, core-released, core-append, core-swept, core-stale, key-at, pin-at}
@@ -24,8 +24,8 @@ module _ {I O : Type 0} where
   rising-from h es n is = (Fits-replayed h (core_state es n) is).rising
 
   -- A legal event keeps what a shard keeps.
-  pub keeps-step : (digest_of : I → List ℕ) (p p' sp sp' : ℕ) (s t : ShardView I O) (e : Event) → Keeps digest_of p sp s → t.history ≡ s.history ++ e ∷ []
-      → after_event (core_state s.live s.next) e ≡ Some (core_state t.live t.next) → AreKeyed digest_of t.live → p' ≡ total_pins t.live → p' ≤ sp' → Keeps digest_of p' sp' t
+  pub keeps-step : (digest_of : I → List ℕ) (p p' sp sp' : ℕ) (s t : ShardView I O) (e : Event) → ShardFits digest_of p sp s → t.history ≡ s.history ++ e ∷ []
+      → after_event (core_state s.live s.next) e ≡ Some (core_state t.live t.next) → AreKeyed digest_of t.live → p' ≡ total_pins t.live → p' ≤ sp' → ShardFits digest_of p' sp' t
   keeps-step digest_of p p' sp sp' s t e k history legal keys pins room = record {
     replays = rw history (replayed-push start s.history (core_state s.live s.next) (core_state t.live t.next) e k.replays legal);
     keys = keys;

@@ -46,8 +46,8 @@ frees id (Release who i) = i == id
 frees id (Sweep who horizon dropped) = false
 
 -- How many pins of the id are left after the events of one caller.
-abbrev pub kept : ℕ → List Event → ℕ
-kept id events = how_many (gives id) events - how_many (frees id) events
+abbrev pub own_held : ℕ → List Event → ℕ
+own_held id events = how_many (gives id) events - how_many (frees id) events
 
 -- The turns without the empty ones are a legal history.
 abbrev pub IsLegal : List Turn → Type 0

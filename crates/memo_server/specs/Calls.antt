@@ -11,8 +11,8 @@ use Rattle.memo_server.specs.declared.answers.ShardLook.TheVariants.{Hit, Absent
 use Rattle.memo_server.specs.declared.answers.ShardKeep.{ShardKeep}
 use Rattle.memo_server.specs.declared.answers.ShardKeep.TheVariants.{Stored, Found, Clash as KeepClash}
 use Rattle.memo_server.specs.declared.met.Asked.{Asked}
-use Rattle.memo_server.specs.declared.met.Met.{Met}
-use Rattle.memo_server.specs.declared.met.Met.TheVariants.{Same, Other, Missing}
+use Rattle.memo_server.specs.declared.met.Meeting.{Meeting}
+use Rattle.memo_server.specs.declared.met.Meeting.TheVariants.{Same, Other, Missing}
 use Rattle.memo_server.specs.Asks.{same_event, other_event}
 use Rattle.memo_server.specs.Views.{EntryView, LiveView, entry_view, entry_of, live_view, found, at_live, pinned_view, is_stale, core_state}
 use Rattle.memo_server.specs.Shards.{ShardView}
@@ -45,7 +45,7 @@ module _ {I O : Type 0} where
     pub made : fits s.input s.out
 
   -- The call met the entry of its input, which the caller holds once more; or another's; or none.
-  abbrev pub Meets : {R : Type 0} → (I → O → Type 0) → (I → List ℕ) → ShardView I O → Asked → ℕ → ℕ → I → Met R I O → ShardView I O → Type 0
+  abbrev pub Meets : {R : Type 0} → (I → O → Type 0) → (I → List ℕ) → ShardView I O → Asked → ℕ → ℕ → I → Meeting R I O → ShardView I O → Type 0
   Meets fits digest_of old asked caller run input (Same s) new = IsLiveEntry fits digest_of (digest_of input) s old × (s.input ≡ input) × AddsAt s.id (pinned_view caller run) (same_event asked caller run (digest_of input) s.id) old new
   Meets fits digest_of old asked caller run input (Other s) new = IsLiveEntry fits digest_of (digest_of input) s old × (s.input ≢ input) × AddsOnly (other_event asked caller run (digest_of input) s.id) old new
   Meets fits digest_of old asked caller run input Missing new = (found (digest_of input) old.live ≡ None) × (new ≡ old)

@@ -14,7 +14,7 @@ pub record ShardView (I O : Type 0) : Type 0 where
 
 -- The history replays to the entries, each stands at its input's digest, and there is
 -- room to release every pin.
-pub record Keeps {I O : Type 0} (digest_of : I → List ℕ) (pins spare : ℕ) (s : ShardView I O) : Type 0 where
+pub record ShardFits {I O : Type 0} (digest_of : I → List ℕ) (pins spare : ℕ) (s : ShardView I O) : Type 0 where
   pub replays : replayed s.history ≡ Some (core_state s.live s.next)
   pub keys : AreKeyed digest_of s.live
   pub pins_are : pins ≡ total_pins s.live

@@ -15,14 +15,14 @@ use Rattle.memo_server.specs.declared.answers.ShardKeep.{ShardKeep}
 use Rattle.memo_server.specs.declared.answers.ShardKeep.TheVariants.{Stored, Found, Clash as KeepClash}
 use Rattle.memo_server.specs.Shards.{ShardView}
 use Rattle.memo_server.specs.Histories.{events}
-use Rattle.memo_server.specs.Callers.{kept, whose}
+use Rattle.memo_server.specs.Callers.{own_held, whose}
 
 module _ {R I O : Type 0} (fits : I → O → Type 0) where
   -- What one may ask under whose number these turns stand.
   abbrev pub May : List Turn → ShardOp R I O → Type 0
   May ts (Look run input) = Unit {0}
   May ts (Keep run input out) = fits input out
-  May ts (Release id) = 0 < kept id (events ts)
+  May ts (Release id) = 0 < own_held id (events ts)
   May ts (Sweep horizon) = Unit {0}
 
   module _ (digest_of : I → List ℕ) where
@@ -62,12 +62,12 @@ module _ {R I O : Type 0} (fits : I → O → Type 0) where
     ToSweep e horizon _ = ⊥
 
     -- The turn that an operation with this reply leaves.
-    abbrev pub Answered : Turn → ShardOp R I O → ShardReply R I O → Type 0
-    Answered e (Look run input) reply = ToLook e run input reply
-    Answered e (Keep run input out) reply = ToKeep e run input out reply
-    Answered e (Release id) reply = ToRelease e id reply
-    Answered e (Sweep horizon) reply = ToSweep e horizon reply
+    abbrev pub AnswersOp : Turn → ShardOp R I O → ShardReply R I O → Type 0
+    AnswersOp e (Look run input) reply = ToLook e run input reply
+    AnswersOp e (Keep run input out) reply = ToKeep e run input out reply
+    AnswersOp e (Release id) reply = ToRelease e id reply
+    AnswersOp e (Sweep horizon) reply = ToSweep e horizon reply
 
     -- A play adds one turn, its caller's or nobody's.
     abbrev pub Plays : ℕ → ShardOp R I O → ShardReply R I O → ShardView I O → ShardView I O → Type 0
-    Plays who op reply old new = (e : Turn) × (new.turns ≡ old.turns ++ e ∷ []) × Answered e op reply × ((whose e ≡ Some who) ⊎ (whose e ≡ None))
+    Plays who op reply old new = (e : Turn) × (new.turns ≡ old.turns ++ e ∷ []) × AnswersOp e op reply × ((whose e ≡ Some who) ⊎ (whose e ≡ None))

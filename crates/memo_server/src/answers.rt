@@ -1,4 +1,4 @@
-//! What a shard answers.
+//! What a shard answers to a look and to a keep, with the entry that it speaks of.
 use crate::recipe::Recipe;
 use crate::shared_entry::SharedEntry;
 

@@ -1,4 +1,4 @@
-//! A live entry of a shard.
+//! A live entry of a shard: its share of the entry, the last run that used it, and who holds it.
 ghost use Rattle.std.specs.Prelude.{◌≡◌, OnOk, OnErr};
 
 use crate::recipe::Recipe;

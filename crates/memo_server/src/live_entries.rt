@@ -1,4 +1,4 @@
-//! The live entries of a shard, by digest.
+//! The live entries of a shard, found by digest in a map and by id in a binary search, since they stand in the order of their ids.
 ghost use Rattle.std.specs.Prelude.{◌≡◌, ℕ, ◌<◌, ◌+◌, ◌++◌, ◌∷◌, [], List, OnOk, OnErr, IfOk, Some, None, length, slice_get, filter, not};
 ghost use Rattle.std.specs.List.{list_any};
 

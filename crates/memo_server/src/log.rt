@@ -1,4 +1,4 @@
-//! The history of a shard.
+//! The history of a shard: its events, its turns with the empty ones, and room in reserve for each release still to come.
 ghost use Rattle.std.specs.Prelude.{◌≡◌, ℕ, ◌<◌, ◌≤◌, ◌+◌, ◌^◌, ◌++◌, ◌∷◌, [], OnOk, length};
 ghost use Rattle.memo_server.specs.declared.turn.Turn.TheVariants.{Made, Empty};
 

@@ -1,4 +1,4 @@
-//! What a shard has for an input.
+//! What a shard has for an input: an entry of the same input, one of another with its digest, or none; and which call asks.
 ghost use Rattle.std.specs.Prelude.{◌≡◌};
 
 use crate::recipe::Recipe;
@@ -7,7 +7,7 @@ use memo_core::{Event, KeepAnswer, LookAnswer};
 
 /// The entry that an input meets in a shard.
 #[derive(Drop)]
-pub enum Met<R: Recipe> {
+pub enum Meeting<R: Recipe> {
     /// Its own.
     Same(SharedEntry<R>),
     /// The one that has the input's digest, with another input.

@@ -1,4 +1,4 @@
-//! What a turn on a shard asks and answers.
+//! What a turn on a shard asks and answers: one of the four calls, and its reply with what a refused call hands back.
 use crate::answers::{ShardKeep, ShardLook};
 use crate::recipe::Recipe;
 use std::alloc::AllocError;

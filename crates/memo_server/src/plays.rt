@@ -2,8 +2,8 @@
 ghost use Rattle.std.specs.Prelude.{◌≡◌, ℕ, ◌<◌, ◌^◌, length};
 ghost use Rattle.turn_lock.specs.Under.{under};
 ghost use Rattle.memo_server.specs.Histories.{events};
-ghost use Rattle.memo_server.specs.Callers.{kept, whose, IsLegal};
-ghost use Rattle.memo_server.specs.Turns.{May, Answered, Plays};
+ghost use Rattle.memo_server.specs.Callers.{own_held, whose, IsLegal};
+ghost use Rattle.memo_server.specs.Turns.{May, AnswersOp, Plays};
 ghost use Rattle.memo_server.specs.declared.ops.ShardOp.TheVariants.{Look, Keep, Release, Sweep};
 
 use crate::ops::{ShardOp, ShardReply};
@@ -42,7 +42,7 @@ impl<R: Recipe> Shard<R> {
     }
 
     fn play_release(&mut self, who: u64, id: u64) -> ShardReply<R>
-        requires may { 0 < kept id (events (under whose who self.old.turns)) }
+        requires may { 0 < own_held id (events (under whose who self.old.turns)) }
         ensures plays { Plays R.fits R.digest_of who (Release id) result self.old self.new }
     {
         let _ = self.history();
@@ -75,7 +75,7 @@ impl<R: Recipe> Turns for Shard<R> {
 
     ghost whose = { whose };
 
-    ghost answers = { Answered R.fits R.digest_of };
+    ghost answers = { AnswersOp R.fits R.digest_of };
 
     ghost may = { May R.fits };
 

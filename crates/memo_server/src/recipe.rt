@@ -1,4 +1,4 @@
-//! What a memo keeps.
+//! What a memo keeps: results by whole inputs, with a digest for each input, a comparison, and shares of both.
 ghost use Rattle.std.specs.Prelude.{◌≡◌, ℕ, List, IfOk, IsTrue, ◌↔◌};
 
 use std::alloc::{AllocError, Global};

@@ -8,7 +8,7 @@ use crate::answers::{ShardKeep, ShardLook};
 use crate::live::Live;
 use crate::live_entries::LiveEntries;
 use crate::log::Log;
-use crate::met::{Asked, Met};
+use crate::met::{Asked, Meeting};
 use crate::recipe::Recipe;
 use crate::shared_entry::SharedEntry;
 use memo_core::{Event, KeepAnswer, LookAnswer, Pins};
@@ -28,13 +28,13 @@ pub struct Shard<R: Recipe> {
 }
 
 impl<R: Recipe> Model for Shard<R> {
-    ghost use Rattle.memo_server.specs.Shards.{ShardView, Keeps};
+    ghost use Rattle.memo_server.specs.Shards.{ShardView, ShardFits};
 
     ghost Value = { ShardView R.In R.Out };
 
     ghost view = { λ s. record { live = s.live; next = s.next; history = s.log.history; turns = s.log.turns } };
 
-    ghost invariant = { λ s. Keeps R.digest_of s.pins s.log.spare (record { live = s.live; next = s.next; history = s.log.history; turns = s.log.turns }) };
+    ghost invariant = { λ s. ShardFits R.digest_of s.pins s.log.spare (record { live = s.live; next = s.next; history = s.log.history; turns = s.log.turns }) };
 }
 
 impl<R: Recipe> Shard<R> {
@@ -88,9 +88,9 @@ impl<R: Recipe> Shard<R> {
     {
         let digest = R::digest(&input);
         match self.meet(Asked::Look, caller, run, digest, &input) {
-            Ok(Met::Same(entry)) => Ok(ShardLook::Hit(entry)),
-            Ok(Met::Other(entry)) => Ok(ShardLook::Clash(entry)),
-            Ok(Met::Missing) => match self.note_absent(caller, run, digest) {
+            Ok(Meeting::Same(entry)) => Ok(ShardLook::Hit(entry)),
+            Ok(Meeting::Other(entry)) => Ok(ShardLook::Clash(entry)),
+            Ok(Meeting::Missing) => match self.note_absent(caller, run, digest) {
                 Ok(()) => Ok(ShardLook::Absent),
                 Err(e) => Err(e),
             },
@@ -116,9 +116,9 @@ impl<R: Recipe> Shard<R> {
     {
         let digest = R::digest(&input);
         match self.meet(Asked::Keep, caller, run, digest, &input) {
-            Ok(Met::Same(entry)) => Ok(ShardKeep::Found(entry)),
-            Ok(Met::Other(entry)) => Ok(ShardKeep::Clash(entry, input, out)),
-            Ok(Met::Missing) => match self.store(caller, run, digest, input, out) {
+            Ok(Meeting::Same(entry)) => Ok(ShardKeep::Found(entry)),
+            Ok(Meeting::Other(entry)) => Ok(ShardKeep::Clash(entry, input, out)),
+            Ok(Meeting::Missing) => match self.store(caller, run, digest, input, out) {
                 Ok(entry) => Ok(ShardKeep::Stored(entry)),
                 Err(back) => Err(back),
             },
@@ -172,25 +172,25 @@ impl<R: Recipe> Shard<R> {
         run: u64,
         digest: [u8; 32],
         input: &R::In,
-    ) -> Result<Met<R>, AllocError>
+    ) -> Result<Meeting<R>, AllocError>
         requires { digest ≡ R.digest_of input.now }
         ensures answer { IfOk result (λ met. Meets R.fits R.digest_of self.old asked caller run input.now met self.new) }
         ensures err { OnErr result (self.new ≡ self.old) }
     {
         let Some(place) = self.live.find(&digest) else {
-            return Ok(Met::Missing);
+            return Ok(Meeting::Missing);
         };
         self.log.reserve(self.pins, 2)?;
         let entry = self.live.share(place)?;
         let id = entry.id();
         if !R::same(entry.input(), input) {
             self.log.add(asked.other_event(caller, run, digest, id));
-            return Ok(Met::Other(entry));
+            return Ok(Meeting::Other(entry));
         }
         self.live.pin(place, caller, run)?;
         self.pins += 1;
         self.log.add(asked.same_event(caller, run, digest, id));
-        Ok(Met::Same(entry))
+        Ok(Meeting::Same(entry))
     }
 
     // The event of a look that found nothing.

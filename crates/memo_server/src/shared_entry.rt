@@ -1,4 +1,4 @@
-//! An entry that several hold.
+//! An entry that several hold: its id, its input and its out, made once and shared by counted pointers.
 ghost use Rattle.std.specs.Prelude.{◌≡◌, IfOk, IfErr};
 
 use crate::recipe::Recipe;

@@ -1,3 +1,4 @@
+//! One shard on one thread: each call's answer, its history replayed, and digests that do not tell inputs apart.
 ghost use Rattle.std.specs.Prelude.{◌≡◌, ◌*◌, ◌%◌, ◌∷◌, []};
 
 use super::*;

@@ -1,44 +1,29 @@
 -- Passes that are handed out from the last one on.
-use Rattle.std.proofs.Common.{◌≡◌, ℕ, zero, suc, ◌+◌, ◌<◌, List, [], ◌∷◌, ◌++◌, length, get_or, set, map, take, drop, Some, slice_get, All, refl, sym, ap, subst, ◌∙◌, arith, length-append}
+use Rattle.std.proofs.Common.{◌≡◌, ℕ, suc, ◌+◌, ◌<◌, List, [], ◌∷◌, ◌++◌, length, get_or, set, map, take, drop, Some, slice_get, All, refl, ap, subst, ◌∙◌, arith}
 use lib.Seq.{get_or-set_other}
 use mathlib.Core.Option.{some}
 use lib.ListN.{get_elem?}
 use Rattle.atomic_table.specs.Seated.{TableId}
 use Rattle.turn_lock.specs.Views.{PassView, unplayed}
-use Rattle.turn_lock.proofs.Views.{at_first}
+use Rattle.atomic_table.proofs.Lists.{at_last, at_longer}
+use Rattle.shared_seats.proofs.Lists.{front_all, last_all}
 use Rattle.memo_server.specs.declared.turn.Turn.{Turn}
 use Rattle.pin_table.specs.Views.{CallerView, with_lock}
 use Rattle.pin_table.proofs.Places.{set-taken, read-at}
 
-elem-last : {A : Type 0} (xs : List A) (x : A) → get_elem? (xs ++ x ∷ []) (length xs) ≡ some x
-elem-last [] x = refl
-elem-last (y ∷ xs) x = elem-last xs x
-
-elem-front : {A : Type 0} (xs : List A) (x a : A) (i : ℕ) → get_elem? xs i ≡ some a → get_elem? (xs ++ x ∷ []) i ≡ some a
-elem-front xs x a i at = at_first xs (x ∷ []) a i at
-
 -- The last pass has the number of its place.
 pub last-pass : (ps qs : List (PassView Turn)) (p : PassView Turn) (n : ℕ) → ps ≡ qs ++ p ∷ [] → n ≡ length qs → ((i : ℕ) (p : PassView Turn) → get_elem? ps i ≡ some p → p ≡ unplayed p.lock i) → p ≡ unplayed p.lock n
-last-pass ps qs p n is at fresh = fresh n p (ap (λ (l : List (PassView Turn)). get_elem? l n) is ∙ (ap (get_elem? (qs ++ p ∷ [])) at ∙ elem-last qs p))
+last-pass ps qs p n is at fresh = fresh n p (ap (λ (l : List (PassView Turn)). get_elem? l n) is ∙ (ap (get_elem? (qs ++ p ∷ [])) at ∙ at_last qs p (length qs) refl))
 
 pub fresh-rest : (ps qs : List (PassView Turn)) (p : PassView Turn) → ps ≡ qs ++ p ∷ [] → ((i : ℕ) (p : PassView Turn) → get_elem? ps i ≡ some p → p ≡ unplayed p.lock i) → (i : ℕ) (q : PassView Turn) → get_elem? qs i ≡ some q → q ≡ unplayed q.lock i
-fresh-rest ps qs p is fresh i q at = fresh i q (ap (λ (l : List (PassView Turn)). get_elem? l i) is ∙ elem-front qs p q i at)
-
-get-front : {A : Type 0} (xs : List A) (x d : A) (k : ℕ) → k < length xs → get_or (xs ++ x ∷ []) k d ≡ get_or xs k d
-get-front [] x d k lt = absurd (omega (arith, lt))
-get-front (y ∷ xs) x d zero lt = refl
-get-front (y ∷ xs) x d (suc k) lt = get-front xs x d k (omega (arith, lt))
-
-get-last : {A : Type 0} (xs : List A) (x d : A) → get_or (xs ++ x ∷ []) (length xs) d ≡ x
-get-last [] x d = refl
-get-last (y ∷ xs) x d = get-last xs x d
+fresh-rest ps qs p is fresh i q at = fresh i q (ap (λ (l : List (PassView Turn)). get_elem? l i) is ∙ at_longer qs (p ∷ []) i q at)
 
 module _ (id : TableId) (ps qs : List (PassView Turn)) (p : PassView Turn) (is : ps ≡ qs ++ p ∷ []) (all : All (λ p. p.lock ≡ id) ps) where
   pub locks-rest : All (λ p. p.lock ≡ id) qs
-  locks-rest k d lt = ap (λ (p : PassView Turn). p.lock) (sym (ap (λ (l : List (PassView Turn)). get_or l k d) is ∙ get-front qs p d k lt)) ∙ all k d (subst (λ (l : List (PassView Turn)). k < length l) (sym is) (let h = length-append qs (p ∷ []) in omega (arith, lt, h)))
+  locks-rest = front_all (λ (p : PassView Turn). p.lock ≡ id) ps qs p is all
 
   pub lock-last : p.lock ≡ id
-  lock-last = ap (λ (p : PassView Turn). p.lock) (sym (ap (λ (l : List (PassView Turn)). get_or l (length qs) p) is ∙ get-last qs p p)) ∙ all (length qs) p (subst (λ (l : List (PassView Turn)). length qs < length l) (sym is) (let h = length-append qs (p ∷ []) in omega (arith, h)))
+  lock-last = last_all (λ (p : PassView Turn). p.lock ≡ id) ps qs p is all
 
 module _ (xs now : List CallerView) (n m : ℕ) (x : CallerView) (one : n + 1 ≡ m) (inside : n < length xs) (front : (i : ℕ) (d : CallerView) → i < m → get_or now i d ≡ get_or xs i d) (is : x ≡ get_or now n x) where
   pub was : x ≡ get_or xs n x

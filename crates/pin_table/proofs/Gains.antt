@@ -11,9 +11,9 @@ use Rattle.memo_core.specs.Machine.{replayed, replayed_from, after_event, start}
 use Rattle.memo_core.specs.History.{held}
 use Rattle.memo_server.specs.declared.turn.Turn.{Turn}
 use Rattle.memo_server.specs.declared.turn.Turn.TheVariants.{Made, Empty}
-use Rattle.memo_server.specs.Callers.{caller_of, kept, whose, own, IsLegal}
+use Rattle.memo_server.specs.Callers.{caller_of, own_held, whose, own, IsLegal}
 use Rattle.memo_server.specs.Histories.{events}
-use Rattle.memo_server.proofs.OwnTurns.{events-under, kept-own}
+use Rattle.memo_server.proofs.OwnTurns.{events-under, own_held-own}
 use Rattle.pin_table.specs.Views.{known_of, PassFits}
 use Rattle.pin_table.specs.Known.{KnownFits, WornOut}
 use Rattle.pin_table.specs.Answers.{Went}
@@ -81,14 +81,6 @@ module _ {O P : Type 0} (answers : Turn → O → P → Type 0) (op : O) (reply 
     shown = same-shown v w p.read p.grows;
   }
 
-  -- The pass fits its caller afterwards.
-  pub pass-fits : w.number ≡ v.number → PassFits n w
-  pass-fits same = record {
-    numbered = same ∙ numbered;
-    legal = p.lawful;
-    same = ap (λ k. under whose k w.seen) (sym numbered) ∙ p.same;
-  }
-
 -- A refused turn leaves what the caller knows but for what it is shown.
 pub worn : (ticket : ℕ) (v w : Known Turn) → WornPass ticket v w → WornOut ticket (known_of v) (known_of w)
 worn ticket v w h = record {
@@ -96,13 +88,6 @@ worn ticket v w h = record {
   seen = ap events h.seen;
   mine = ap events h.mine;
   shown = (let past : nat_lt w.read (2 ^ 62) ≡ false = (let a = h.limit in let b = h.read in grind (arith, nat_tests)) in ap (λ (b : Bool). cond b 0 w.read) past) ∙ h.read;
-}
-
-pub worn-fits : (n ticket : ℕ) (v w : Known Turn) → PassFits n v → w.number ≡ v.number → WornPass ticket v w → PassFits n w
-worn-fits n ticket v w fits same h = record {
-  numbered = same ∙ fits.numbered;
-  legal = subst IsLegal (sym h.seen) fits.legal;
-  same = ap (under whose n) h.seen ∙ (fits.same ∙ sym h.mine);
 }
 
 -- What a pass keeps, for its caller.
@@ -118,5 +103,5 @@ known-fits n k fits = record {
     shown_case false is = inr (grind (arith, nat_tests))
 
 -- What a pass may release.
-pub may-release : (n id : ℕ) (k : Known Turn) → PassFits n k → 0 < held n id (events k.mine) → 0 < kept id (events (under whose k.number k.mine))
-may-release n id k fits h = subst (λ m. 0 < m) (sym (ap (kept id) (ap (λ m. events (under whose m k.mine)) fits.numbered ∙ events-under n k.mine) ∙ kept-own n id (events k.mine))) h
+pub may-release : (n id : ℕ) (k : Known Turn) → PassFits n k → 0 < held n id (events k.mine) → 0 < own_held id (events (under whose k.number k.mine))
+may-release n id k fits h = subst (λ m. 0 < m) (sym (ap (own_held id) (ap (λ m. events (under whose m k.mine)) fits.numbered ∙ events-under n k.mine) ∙ own_held-own n id (events k.mine))) h

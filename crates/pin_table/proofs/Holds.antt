@@ -20,8 +20,8 @@ use Rattle.memo_core.proofs.Lists.{RisingIds, find_id-above, has_digest-found, h
 use Rattle.memo_core.proofs.Invariant.{Fits-replayed, replayed-push, when_some, and_true, second_true}
 use Rattle.memo_core.proofs.HistoryLaws.{pinned_is_live, given_before_released}
 use Rattle.memo_core.proofs.SaidDigests.{live-digest}
-use Rattle.memo_server.specs.Callers.{caller_of, gives, frees, kept, own}
-use Rattle.memo_server.proofs.OwnTurns.{gives-of, frees-of, count-own, kept-own}
+use Rattle.memo_server.specs.Callers.{caller_of, gives, frees, own_held, own}
+use Rattle.memo_server.proofs.OwnTurns.{gives-of, frees-of, count-own, own_held-own}
 use Rattle.pin_table.specs.Views.{ShardKnown}
 use Rattle.pin_table.specs.Known.{KnownFits, Gained}
 use Rattle.pin_table.specs.Lasting.{IsLive, IsAbsent, LookSays, KeepSays, TurnKeeps, HeldFollows, HeldIsLive, HeldIsFound, AnswersAreExact}
@@ -40,7 +40,7 @@ own-again n (e ∷ es) = own_case (caller_of e == n) refl (own-again n es)
 
 -- What a caller holds by its own events it holds by all that it has seen.
 held-own : (n id : ℕ) (es : List Event) → held n id (own n es) ≡ held n id es
-held-own n id es = sym (kept-own n id (own n es)) ∙ (ap (kept id) (own-again n es) ∙ kept-own n id es)
+held-own n id es = sym (own_held-own n id (own n es)) ∙ (ap (own_held id) (own-again n es) ∙ own_held-own n id es)
 
 -- All that was seen before the call has the caller's events of before.
 past-own : (n : ℕ) (e : Event) (v w : ShardKnown) (g : Gained n e v w) → own n v.seen ≡ v.mine → own n (v.seen ++ g.between) ≡ v.mine

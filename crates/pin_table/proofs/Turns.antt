@@ -12,7 +12,7 @@ use Rattle.memo_server.specs.declared.ops.ShardOp.{ShardOp}
 use Rattle.memo_server.specs.declared.ops.ShardOp.TheVariants.{Look, Keep, Release, Sweep}
 use Rattle.memo_server.specs.declared.ops.ShardReply.{ShardReply}
 use Rattle.memo_server.specs.Callers.{whose, IsLegal}
-use Rattle.memo_server.specs.Turns.{May, Answered}
+use Rattle.memo_server.specs.Turns.{May, AnswersOp}
 use Rattle.pin_table.specs.Views.{ShardKnown, CallerView, known_of, PassFits}
 use Rattle.pin_table.specs.Known.{AtShard, CallerFits, KnownFits, known_at, WornOut}
 use Rattle.pin_table.specs.Answers.{MayAsk, TookTurn, RefusedTurn}
@@ -72,8 +72,8 @@ module _ {R I O : Type 0} (fits : I → O → Type 0) (digest_of : I → List �
     keeps : PassFits n p.known
     keeps = all-at (λ (p : PassView Turn). PassFits n p.known) ps s p all at
 
-    pub took-at : (r : Result (ShardReply R I O) (Turned (ShardOp R I O))) → IfOk r (λ reply. Played whose (Answered fits digest_of) IsLegal op reply p.known q.known) → IfOk r (λ reply. AtShard (TookTurn fits digest_of op reply n) s (caller_of_passes n ps) (caller_of_passes n (set ps s q)))
-    took-at (Ok reply) h = at-pass n s ps p q inside at locked (TookTurn fits digest_of op reply n) (h.entry, h.answer, went (Answered fits digest_of) op reply p.known q.known h n keeps.numbered h.entry refl)
+    pub took-at : (r : Result (ShardReply R I O) (Turned (ShardOp R I O))) → IfOk r (λ reply. Played whose (AnswersOp fits digest_of) IsLegal op reply p.known q.known) → IfOk r (λ reply. AtShard (TookTurn fits digest_of op reply n) s (caller_of_passes n ps) (caller_of_passes n (set ps s q)))
+    took-at (Ok reply) h = at-pass n s ps p q inside at locked (TookTurn fits digest_of op reply n) (h.entry, h.answer, went (AnswersOp fits digest_of) op reply p.known q.known h n keeps.numbered h.entry refl)
     took-at (Err e) h = tt
 
     pub refused-at : (r : Result (ShardReply R I O) (Turned (ShardOp R I O))) → IfErr r (λ w. WasWorn op w p.known q.known) → IfErr r (λ w. RefusedTurn fits digest_of op w s (caller_of_passes n ps) (caller_of_passes n (set ps s q)))

@@ -12,7 +12,7 @@ use Rattle.memo_server.specs.declared.ops.ShardOp.{ShardOp}
 use Rattle.memo_server.specs.declared.ops.ShardOp.TheVariants.{Look as LookOp, Keep as KeepOp, Release as ReleaseOp, Sweep as SweepOp}
 use Rattle.memo_server.specs.declared.ops.ShardReply.{ShardReply}
 use Rattle.memo_server.specs.Views.{EntryView}
-use Rattle.memo_server.specs.Turns.{Answered}
+use Rattle.memo_server.specs.Turns.{AnswersOp}
 use Rattle.pin_table.specs.declared.answers.Looked.{Looked}
 use Rattle.pin_table.specs.declared.answers.Looked.TheVariants.{Hit, Absent, Clash}
 use Rattle.pin_table.specs.declared.answers.Kept.{Kept}
@@ -65,7 +65,7 @@ module _ {R I O : Type 0} (fits : I → O → Type 0) where
   module _ (digest_of : I → List ℕ) where
     -- A turn that answers what was asked by this reply.
     abbrev pub TookTurn : ShardOp R I O → ShardReply R I O → ℕ → ShardKnown → ShardKnown → Type 0
-    TookTurn op reply number old new = (e : Turn) × Answered fits digest_of e op reply × Went number e old new
+    TookTurn op reply number old new = (e : Turn) × AnswersOp fits digest_of e op reply × Went number e old new
 
     -- A refused turn hands back what was asked.
     abbrev pub RefusedTurn : ShardOp R I O → Turned (ShardOp R I O) → ℕ → CallerView → CallerView → Type 0

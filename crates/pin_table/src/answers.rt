@@ -1,4 +1,4 @@
-//! What a memo answers.
+//! What a memo answers to a look and to a keep, with the pin that it gave; and why a call had no answer.
 use crate::pin::Pin;
 use memo_server::{Recipe, SharedEntry};
 

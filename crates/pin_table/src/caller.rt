@@ -1,4 +1,4 @@
-//! One who calls a memo.
+//! One who calls a memo: a pass at the lock of each shard, all under one number, and what these passes know.
 ghost use Rattle.std.specs.Prelude.{◌≡◌, ◌<◌, [], length, IfOk};
 ghost use Rattle.turn_lock.specs.Views.{unplayed};
 ghost use Rattle.pin_table.specs.Known.{CallerFits};

@@ -1,4 +1,4 @@
-//! How a memo is closed.
+//! How a memo is closed: its callers give their passes back shard by shard, and each lock gives its shard out.
 ghost use Rattle.std.specs.Prelude.{◌≡◌, ℕ, ◌+◌, ◌<◌, ◌≤◌, [], length, vec_len, vec_capacity, IfOk, IfErr, All, map};
 ghost use Rattle.pin_table.specs.Ends.{Closes};
 ghost use Rattle.pin_table.specs.Closing.{AllClose, Gives};

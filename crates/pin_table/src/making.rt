@@ -1,4 +1,4 @@
-//! How a memo and its callers are made.
+//! How a memo and its callers are made: a lock for each shard, whose passes go to the callers in their order.
 ghost use Rattle.std.specs.Prelude.{◌≡◌, ℕ, ◌^◌, ◌<◌, ◌≤◌, ◌++◌, ◌∷◌, [], length, vec_len, vec_capacity, slice_get, Some, IfOk, map, All};
 ghost use mathlib.Core.Option.{some};
 ghost use lib.ListN.{get_elem?};

@@ -1,4 +1,4 @@
-//! A memo, as it lies in memory.
+//! A memo, as it lies in memory: its locks, each over a shard, and how many callers it was made with.
 ghost use Rattle.std.specs.Prelude.{◌≡◌, ◌<◌, ◌≤◌, length};
 
 use memo_server::{Recipe, Shard};

@@ -1,4 +1,4 @@
-//! A hold on an entry.
+//! A hold on an entry: whose it is, at which shard, and a share of the entry, whose result it hands out.
 ghost use Rattle.std.specs.Prelude.{◌≡◌, IfOk};
 
 use memo_server::{Recipe, SharedEntry};

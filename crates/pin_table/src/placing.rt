@@ -1,4 +1,4 @@
-//! Where an input is kept.
+//! Where an input is kept: the shard that the second byte of its digest names.
 ghost use Rattle.std.specs.Prelude.{◌≡◌, ◌<◌};
 ghost use Rattle.pin_table.specs.Placing.{shard_at};
 

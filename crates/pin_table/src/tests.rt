@@ -1,3 +1,4 @@
+//! Memos that one caller or several threads call: clashes, worn locks, pins that outlive a sweep, and one history a shard.
 ghost use Rattle.std.specs.Prelude.{◌≡◌, ◌+◌, ◌*◌, ◌%◌, ◌∷◌, [], ◌<◌, vec_len, All, IfOk};
 ghost use Rattle.pin_table.specs.Covers.{Covered, names_of};
 ghost use Rattle.pin_table.specs.Spread.{spread};

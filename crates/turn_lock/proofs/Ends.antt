@@ -11,24 +11,14 @@ use Rattle.turn_lock.specs.declared.knowledge.View.{View}
 use Rattle.turn_lock.specs.declared.knowledge.Stage.{Stage}
 use Rattle.turn_lock.specs.declared.knowledge.Stage.TheVariants.{Idle}
 use Rattle.turn_lock.specs.Passes.{Closes}
-use Rattle.turn_lock.specs.Rule.{total, Live, IsServing, HasDrawn, parts, HasAll, Stands, KnownFits, SeatFits, Home, Kept}
-use Rattle.turn_lock.proofs.Views.{at_both, at_first, at_second, part_live}
+use Rattle.turn_lock.specs.Rule.{Live, IsServing, HasDrawn, parts, HasAll, Stands, KnownFits, SeatFits, Home, TurnRule}
+use Rattle.turn_lock.proofs.Views.{at_both, part_live}
+use Rattle.shared_seats.proofs.Lists.{at_second, same_at, two_of}
+use Rattle.atomic_table.proofs.Lists.{at_longer}
 use Rattle.turn_lock.proofs.Steps.{drawn_live, live_serving}
 
-one_of : {A : Type 0} (f : A → ℕ) (l : List A) (i : ℕ) (a : A) → get_elem? l i ≡ some a → f a ≤ total f l
-one_of f [] i a e = absurd (some-ne-none a (sym e))
-one_of f (x ∷ xs) zero a e = let p : f x ≡ f a = ap f (some-injective x a e) in omega arith
-one_of f (x ∷ xs) (suc i) a e = let q = one_of f xs i a e in omega arith
-
-two_of : {A : Type 0} (f : A → ℕ) (l : List A) (i j : ℕ) (a b : A) → get_elem? l i ≡ some a → get_elem? l j ≡ some b → j ≢ i → f a + f b ≤ total f l
-two_of f [] i j a b e h ne = absurd (some-ne-none a (sym e))
-two_of f (x ∷ xs) zero zero a b e h ne = absurd (ne refl)
-two_of f (x ∷ xs) zero (suc j) a b e h ne = let p : f x ≡ f a = ap f (some-injective x a e) in let q = one_of f xs j b h in omega arith
-two_of f (x ∷ xs) (suc i) zero a b e h ne = let p : f x ≡ f b = ap f (some-injective x b h) in let q = one_of f xs i a e in omega arith
-two_of f (x ∷ xs) (suc i) (suc j) a b e h ne = let q = two_of f xs i j a b e h (λ k. ne (ap suc k)) in omega arith
-
 module _ {T E : Type 0} (history : T → List E) (whose : E → Option ℕ) (start callers : ℕ) where
-  module _ (s : State (Option T) (View E)) (r : Kept history whose start callers s) (id : ℕ) (v : View E) (here : get_elem? s.views id ≡ some v) (idle : v.stage ≡ Idle) (count : length v.ended + 1 ≡ callers) where
+  module _ (s : State (Option T) (View E)) (r : TurnRule history whose start callers s) (id : ℕ) (v : View E) (here : get_elem? s.views id ≡ some v) (idle : v.stage ≡ Idle) (count : length v.ended + 1 ≡ callers) where
     live : Live v.stage
     live = subst Live (sym idle) tt
 
@@ -42,7 +32,7 @@ module _ {T E : Type 0} (history : T → List E) (whose : E → Option ℕ) (sta
         let c = r.shared in absurd (omega arith))
 
     is_v : (k : ℕ) (u : View E) → get_elem? s.views k ≡ some u → Live u.stage → u ≡ v
-    is_v k u at lv = some-injective u v (sym at ∙ (ap (get_elem? s.views) (alone k u at lv) ∙ here))
+    is_v k u at lv = same_at s.views k id u v at here (alone k u at lv)
 
     all_served : r.ticket ≤ start + length r.log
     all_served = dite (dec_lt (start + length r.log) r.ticket)
@@ -60,11 +50,11 @@ module _ {T E : Type 0} (history : T → List E) (whose : E → Option ℕ) (sta
     own_in = at_second v.ended (v.own ∷ []) v.own zero refl
 
     last_in : (k : ℕ) (u : View E) → get_elem? s.views k ≡ some u → Live u.stage → HasAll r.log u → (i : ℕ) × (x : Known E) × (get_elem? every i ≡ some x) × (x.seen ≡ r.log)
-    last_in k u at lv has = ⊎_elim (λ a. (own_in.0, v.own, own_in.1, a)) (λ (i, x, b, c). (i, x, at_first v.ended (v.own ∷ []) x i b, c)) (subst (λ (z : View E). HasAll r.log z) (is_v k u at lv) has)
+    last_in k u at lv has = ⊎_elim (λ a. (own_in.0, v.own, own_in.1, a)) (λ (i, x, b, c). (i, x, at_longer v.ended (v.own ∷ []) i x b, c)) (subst (λ (z : View E). HasAll r.log z) (is_v k u at lv) has)
 
     number_in : (n : ℕ) → Stands s.views n → (i : ℕ) × (x : Known E) × (get_elem? every i ≡ some x) × (x.number ≡ n)
     number_in n (inl (u, at, lv)) = (own_in.0, v.own, own_in.1, f.number ∙ sym (alone n u at lv))
-    number_in n (inr (k, u, i, x, at, lv, in_ended, is)) = (i, x, at_first v.ended (v.own ∷ []) x i (subst (λ (z : View E). get_elem? z.ended i ≡ some x) (is_v k u at lv) in_ended), is)
+    number_in n (inr (k, u, i, x, at, lv, in_ended, is)) = (i, x, at_longer v.ended (v.own ∷ []) i x (subst (λ (z : View E). get_elem? z.ended i ≡ some x) (is_v k u at lv) in_ended), is)
 
     closes : Closes whose start r.log every
     closes = record {
@@ -77,7 +67,7 @@ module _ {T E : Type 0} (history : T → List E) (whose : E → Option ℕ) (sta
     at_home = ⊎_elim (λ h. h) (λ (away, (k, u, at, sv)). absurd (subst IsServing (ap (λ (z : View E). z.stage) (is_v k u at (live_serving history whose start callers u.stage sv)) ∙ idle) sv)) r.slot
 
   -- the state is at home, and its history is all
-  pub ends : (id : ℕ) (v : View E) (words : List ℕ) (slots : List (Option T)) → v.stage ≡ Idle → length v.ended + 1 ≡ callers → Final (Seen (Kept history whose start callers) id v) words slots
+  pub ends : (id : ℕ) (v : View E) (words : List ℕ) (slots : List (Option T)) → v.stage ≡ Idle → length v.ended + 1 ≡ callers → Final (Seen (TurnRule history whose start callers) id v) words slots
       → (t : T) × (get_elem? slots 0 ≡ some (Some t)) × Closes whose start (history t) (v.ended ++ v.own ∷ [])
   ends id v words slots idle count (s, (r, here), ws, long, same) =
       let h = at_home s r id v here idle count in

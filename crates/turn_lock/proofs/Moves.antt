@@ -11,15 +11,17 @@ use Rattle.atomic_table.proofs.Lists.{at_set, set_here, set_else}
 use Rattle.turn_lock.specs.declared.knowledge.Known.{Known}
 use Rattle.turn_lock.specs.declared.knowledge.View.{View}
 use Rattle.turn_lock.specs.Under.{under}
-use Rattle.turn_lock.specs.Rule.{total, Begins, Live, IsServing, HasDrawn, mark_of, marks, parts_of, parts, InStage, IsSpent, HasAll, Stands, KnownFits, SeatFits, Home, Kept}
-use Rattle.turn_lock.proofs.Views.{at_length, total_set, parts_live}
+use Rattle.turn_lock.specs.Rule.{Begins, Live, IsServing, HasDrawn, mark_of, marks, parts_of, parts, InStage, IsSpent, HasAll, Stands, KnownFits, SeatFits, Home, TurnRule}
+use Rattle.shared_seats.specs.Seats.{total}
+use Rattle.turn_lock.proofs.Views.{parts_live}
+use Rattle.shared_seats.proofs.Lists.{at_length, total_set}
 
 module _ {T E : Type 0} (history : T → List E) (whose : E → Option ℕ) (start callers : ℕ) where
   abbrev pub St : Type 0
   St = State (Option T) (View E)
 
   abbrev pub K : St → Type 0
-  K = Kept history whose start callers
+  K = TurnRule history whose start callers
 
   -- what a step of the seat id owes, where its view goes from v to w, the history to log and the next ticket to ticket
   pub record Owes (s : St) (r : K s) (id : ℕ) (v w : View E) (log : List E) (ticket : ℕ) (homes : List (maybe.Option (Option T))) : Type 0 where

@@ -12,12 +12,16 @@ use Rattle.turn_lock.specs.declared.knowledge.View.{View}
 use Rattle.turn_lock.specs.declared.knowledge.Stage.{Stage}
 use Rattle.turn_lock.specs.declared.knowledge.Stage.TheVariants.{Idle}
 use Rattle.turn_lock.specs.Under.{under}
-use Rattle.turn_lock.specs.Rule.{newcomer, spent, without_one, the_one, with, Live, IsServing, HasDrawn, marks, parts, IsSpent, HasAll, Stands, KnownFits, SeatFits, Kept}
-use Rattle.turn_lock.proofs.Views.{at_length, total_set, total_snoc, at_end, at_both, at_first, at_second, one_at, left_nil, under-append, part_live}
+use Rattle.turn_lock.specs.Rule.{newcomer, spent, without_one, the_one, with, Live, IsServing, HasDrawn, marks, parts, IsSpent, HasAll, Stands, KnownFits, SeatFits, TurnRule}
+use Rattle.turn_lock.proofs.Views.{at_both, left_nil, under-append, part_live}
+use Rattle.shared_seats.specs.Seats.{divided, joined as joined_views}
+use Rattle.shared_seats.proofs.Lists.{at_length, same_at, at_second, one_at}
+use Rattle.shared_seats.proofs.Seats.{divided_length, divided_here, divided_new, divided_else, divided_which, divided_total, joined_length, joined_here, joined_other, joined_else, joined_which, joined_total}
+use Rattle.atomic_table.proofs.Lists.{at_longer}
 
 module _ {T E : Type 0} (history : T → List E) (whose : E → Option ℕ) (start callers : ℕ) where
   abbrev K : State (Option T) (View E) → Type 0
-  K = Kept history whose start callers
+  K = TurnRule history whose start callers
 
   pub starts : (x : T) (words : List ℕ) (slots : List (Option T)) → words ≡ start ∷ start ∷ [] → slots ≡ Some x ∷ [] → history x ≡ [] → start ≤ 2 ^ 62 → 0 < callers → callers ≤ 64 → K (opening words slots (newcomer callers))
   starts x words slots ws xs nothing low some_caller few =
@@ -56,36 +60,26 @@ module _ {T E : Type 0} (history : T → List E) (whose : E → Option ℕ) (sta
     f : SeatFits whose start callers s.views r.log r.ticket id v
     f = r.seats id v here live
 
-    abbrev L : List (View E)
-    L = set s.views id (without_one v)
-
     abbrev V : List (View E)
-    V = L ++ the_one v ∷ []
-
-    long : length L ≡ n
-    long = length-set s.views id (without_one v)
+    V = divided s.views id (without_one v) (the_one v)
 
     longer : length V ≡ n + 1
-    longer = length-append L (the_one v ∷ []) ∙ ap (λ (k : ℕ). k + 1) long
+    longer = divided_length s.views id v (without_one v) (the_one v) here
 
     at_id : get_elem? V id ≡ some (without_one v)
-    at_id = at_first L (the_one v ∷ []) (without_one v) id (set_here s.views id (without_one v) (at_length s.views id v here))
+    at_id = divided_here s.views id v (without_one v) (the_one v) here
 
     at_new : get_elem? V n ≡ some (the_one v)
-    at_new = at_last L (the_one v) n long
+    at_new = divided_new s.views id v (without_one v) (the_one v) here
 
     at_old : (k : ℕ) (u : View E) → k ≢ id → get_elem? s.views k ≡ some u → get_elem? V k ≡ some u
-    at_old k u ne at = at_first L (the_one v ∷ []) u k (set_else s.views id k (without_one v) ne ∙ at)
+    at_old = divided_else s.views id v (without_one v) (the_one v) here
 
-    -- which view it is
     which : (P : ℕ → View E → Type 0) → P id (without_one v) → ((k : ℕ) (u : View E) → k ≢ id → get_elem? s.views k ≡ some u → P k u) → P n (the_one v) → (k : ℕ) (u : View E) → get_elem? V k ≡ some u → P k u
-    which P a b c k u at = ⊎_elim
-        (λ old. ⊎_elim (λ (e, is). subst (λ (z : ℕ × View E). P z.0 z.1) (λ i. (sym e i, is i)) a) (λ (ne, at'). b k u ne at') (at_set s.views id k (without_one v) u old))
-        (λ (e, is). subst (λ (z : ℕ × View E). P z.0 z.1) (λ i. (sym (e ∙ long) i, is i)) c)
-        (at_end L (the_one v) u k at)
+    which = divided_which s.views id v (without_one v) (the_one v) here
 
     same_or : (k : ℕ) (u : View E) → get_elem? s.views k ≡ some u → k ≡ id → u ≡ v
-    same_or k u at e = some-injective u v (sym at ∙ (ap (get_elem? s.views) e ∙ here))
+    same_or k u at e = same_at s.views k id u v at here e
 
     -- where an old view has something that only stage, own and ended tell, so has the view at its place
     goes_on : (P : Stage E → Known E → List (Known E) → Type 0) → ((k : ℕ) × (u : View E) × (get_elem? s.views k ≡ some u) × P u.stage u.own u.ended) → (k : ℕ) × (u : View E) × (get_elem? V k ≡ some u) × P u.stage u.own u.ended
@@ -145,8 +139,8 @@ module _ {T E : Type 0} (history : T → List E) (whose : E → Option ℕ) (sta
       seats = seats;
       whom = (λ m lo hi. goes_on (λ st own es. HasDrawn st m) (r.whom m lo hi));
       apart = (λ j k x y m atj atk dx dy. ⊎_elim (λ (jn, e). absurd (subst (λ (z : View E). HasDrawn z.stage m) (sym e) dx)) (λ (x', atj', ex). ⊎_elim (λ (kn, e). absurd (subst (λ (z : View E). HasDrawn z.stage m) (sym e) dy)) (λ (y', atk', ey). r.apart j k x' y' m atj' atk' (subst (λ (st : Stage E). HasDrawn st m) ex dx) (subst (λ (st : Stage E). HasDrawn st m) ey dy)) (came k y atk)) (came j x atj));
-      few = (let a = total_set marks s.views id v (without_one v) here in let b = total_snoc marks L (the_one v) in let q = r.few in omega arith);
-      shared = (let a = total_set parts s.views id v (without_one v) here in let b = total_snoc parts L (the_one v) in let q = r.shared in
+      few = (let a = divided_total s.views id v (without_one v) (the_one v) here marks in let q = r.few in omega arith);
+      shared = (let a = divided_total s.views id v (without_one v) (the_one v) here parts in let q = r.shared in
           let c = part_live v.stage (v.gives + length v.ended + 1) live in let d = part_live v.stage (v.gives - 1 + length v.ended + 1) live in omega arith);
       within = (let l = longer in let q = g.1 in omega arith);
       given = (λ m h. r.given m (let l = longer in omega arith));
@@ -160,7 +154,7 @@ module _ {T E : Type 0} (history : T → List E) (whose : E → Option ℕ) (sta
 
   module _ (s : State (Option T) (View E)) (r : K s) (id other : ℕ) (v w : View E) (here : get_elem? s.views id ≡ some v) (there : get_elem? s.views other ≡ some w) (apart : other ≢ id) (idle : v.stage ≡ Idle) (idle' : w.stage ≡ Idle) (gave_all : w.gives ≡ 0) where
     abbrev J : List (View E)
-    J = set (set s.views id (with v w)) other spent
+    J = joined_views s.views id other (with v w) spent
 
     jlive : Live v.stage
     jlive = subst Live (sym idle) tt
@@ -175,30 +169,24 @@ module _ {T E : Type 0} (history : T → List E) (whose : E → Option ℕ) (sta
     jf' = r.seats other w there jlive'
 
     jlong : length J ≡ length s.views
-    jlong = length-set (set s.views id (with v w)) other spent ∙ length-set s.views id (with v w)
+    jlong = joined_length s.views id other v w (with v w) spent here there apart
 
     j_at_id : get_elem? J id ≡ some (with v w)
-    j_at_id = set_else (set s.views id (with v w)) other id spent (λ e. apart (sym e)) ∙ set_here s.views id (with v w) (at_length s.views id v here)
+    j_at_id = joined_here s.views id other v w (with v w) spent here there apart
 
     j_at_other : get_elem? J other ≡ some spent
-    j_at_other = set_here (set s.views id (with v w)) other spent (let l = length-set s.views id (with v w) in let q = at_length s.views other w there in omega arith)
+    j_at_other = joined_other s.views id other v w (with v w) spent here there apart
 
     j_at_old : (k : ℕ) (u : View E) → k ≢ id → k ≢ other → get_elem? s.views k ≡ some u → get_elem? J k ≡ some u
-    j_at_old k u ni nt at = set_else (set s.views id (with v w)) other k spent nt ∙ (set_else s.views id k (with v w) ni ∙ at)
+    j_at_old = joined_else s.views id other v w (with v w) spent here there apart
 
     j_which : (P : ℕ → View E → Type 0) → P id (with v w) → ((k : ℕ) (u : View E) → k ≢ id → k ≢ other → get_elem? s.views k ≡ some u → P k u) → P other spent → (k : ℕ) (u : View E) → get_elem? J k ≡ some u → P k u
-    j_which P a b c k u at = ⊎_elim
-        (λ (e, is). subst (λ (z : ℕ × View E). P z.0 z.1) (λ i. (sym e i, is i)) c)
-        (λ (nt, at'). ⊎_elim (λ (e, is). subst (λ (z : ℕ × View E). P z.0 z.1) (λ i. (sym e i, is i)) a) (λ (ni, at''). b k u ni nt at'') (at_set s.views id k (with v w) u at'))
-        (at_set (set s.views id (with v w)) other k spent u at)
-
-    j_same : (x y : View E) (j k : ℕ) → get_elem? s.views j ≡ some x → get_elem? s.views k ≡ some y → j ≡ k → x ≡ y
-    j_same x y j k a b e = some-injective x y (sym a ∙ (ap (get_elem? s.views) e ∙ b))
+    j_which = joined_which s.views id other v w (with v w) spent here there apart
 
     j_still : (x : ℕ) → IsSpent s.views x → IsSpent J x
     j_still x (u, at, is) = dite (ℕ_discrete x id)
-        (λ e. absurd (subst Live (ap (λ (z : View E). z.stage) (j_same v u id x here at (sym e)) ∙ is) jlive))
-        (λ ni. dite (ℕ_discrete x other) (λ e. absurd (subst Live (ap (λ (z : View E). z.stage) (j_same w u other x there at (sym e)) ∙ is) jlive')) (λ nt. (u, j_at_old x u ni nt at, is)))
+        (λ e. absurd (subst Live (ap (λ (z : View E). z.stage) (same_at s.views id x v u here at (sym e)) ∙ is) jlive))
+        (λ ni. dite (ℕ_discrete x other) (λ e. absurd (subst Live (ap (λ (z : View E). z.stage) (same_at s.views other x w u there at (sym e)) ∙ is) jlive')) (λ nt. (u, j_at_old x u ni nt at, is)))
 
     j_ends : (es : List (Known E)) → ((i : ℕ) (x : Known E) → get_elem? es i ≡ some x → KnownFits whose r.log r.ticket x × IsSpent s.views x.number) → (i : ℕ) (x : Known E) → get_elem? es i ≡ some x → KnownFits whose r.log r.ticket x × IsSpent J x.number
     j_ends es h i x at = let q = h i x at in (q.0, j_still x.number q.1)
@@ -224,9 +212,9 @@ module _ {T E : Type 0} (history : T → List E) (whose : E → Option ℕ) (sta
         (λ e. let q = at_second w.ended (w.own ∷ v.ended) w.own zero refl in inr (id, with v w, q.0, w.own, j_at_id, jlive, q.1, jf'.number ∙ sym e))
         (λ nt. inl (u, j_at_old k u ni nt at, lv)))
     j_stood k (inr (j, u, i, x, at, lv, in_ended, is)) = dite (ℕ_discrete j id)
-        (λ e. let q = j_in i x (subst (λ (z : View E). get_elem? z.ended i ≡ some x) (j_same u v j id at here e) in_ended) in inr (id, with v w, q.0, x, j_at_id, jlive, q.1, is))
+        (λ e. let q = j_in i x (subst (λ (z : View E). get_elem? z.ended i ≡ some x) (same_at s.views j id u v at here e) in_ended) in inr (id, with v w, q.0, x, j_at_id, jlive, q.1, is))
         (λ ni. dite (ℕ_discrete j other)
-        (λ e. inr (id, with v w, i, x, j_at_id, jlive, at_first w.ended (w.own ∷ v.ended) x i (subst (λ (z : View E). get_elem? z.ended i ≡ some x) (j_same u w j other at there e) in_ended), is))
+        (λ e. inr (id, with v w, i, x, j_at_id, jlive, at_longer w.ended (w.own ∷ v.ended) i x (subst (λ (z : View E). get_elem? z.ended i ≡ some x) (same_at s.views j other u w at there e) in_ended), is))
         (λ nt. inr (j, u, i, x, j_at_old j u ni nt at, lv, in_ended, is)))
 
     -- another view that is neither idle nor spent stands as before
@@ -235,8 +223,8 @@ module _ {T E : Type 0} (history : T → List E) (whose : E → Option ℕ) (sta
       k,
       u,
       j_at_old k u
-          (λ e. not (subst P (ap (λ (z : View E). z.stage) (j_same u v k id at here e) ∙ idle) p))
-          (λ e. not (subst P (ap (λ (z : View E). z.stage) (j_same u w k other at there e) ∙ idle') p)) at,
+          (λ e. not (subst P (ap (λ (z : View E). z.stage) (same_at s.views k id u v at here e) ∙ idle) p))
+          (λ e. not (subst P (ap (λ (z : View E). z.stage) (same_at s.views k other u w at there e) ∙ idle') p)) at,
       p,
     )
 
@@ -245,9 +233,9 @@ module _ {T E : Type 0} (history : T → List E) (whose : E → Option ℕ) (sta
 
     j_last : (k : ℕ) (u : View E) → get_elem? s.views k ≡ some u → Live u.stage → HasAll r.log u → (k : ℕ) × (x : View E) × (get_elem? J k ≡ some x) × Live x.stage × HasAll r.log x
     j_last k u at lv has = dite (ℕ_discrete k id)
-        (λ e. (id, with v w, j_at_id, jlive, ⊎_elim (λ a. inl a) (λ (i, x, b, c). let q = j_in i x b in inr (q.0, x, q.1, c)) (subst (λ (z : View E). HasAll r.log z) (j_same u v k id at here e) has)))
+        (λ e. (id, with v w, j_at_id, jlive, ⊎_elim (λ a. inl a) (λ (i, x, b, c). let q = j_in i x b in inr (q.0, x, q.1, c)) (subst (λ (z : View E). HasAll r.log z) (same_at s.views k id u v at here e) has)))
         (λ ni. dite (ℕ_discrete k other)
-        (λ e. (id, with v w, j_at_id, jlive, inr (⊎_elim (λ a. let q = at_second w.ended (w.own ∷ v.ended) w.own zero refl in (q.0, w.own, q.1, a)) (λ (i, x, b, c). (i, x, at_first w.ended (w.own ∷ v.ended) x i b, c)) (subst (λ (z : View E). HasAll r.log z) (j_same u w k other at there e) has))))
+        (λ e. (id, with v w, j_at_id, jlive, inr (⊎_elim (λ a. let q = at_second w.ended (w.own ∷ v.ended) w.own zero refl in (q.0, w.own, q.1, a)) (λ (i, x, b, c). (i, x, at_longer w.ended (w.own ∷ v.ended) i x b, c)) (subst (λ (z : View E). HasAll r.log z) (same_at s.views k other u w at there e) has))))
         (λ nt. (k, u, j_at_old k u ni nt at, lv, has)))
 
     joined : K record { words = s.words; homes = s.homes; views = J }
@@ -260,8 +248,8 @@ module _ {T E : Type 0} (history : T → List E) (whose : E → Option ℕ) (sta
       seats = j_seats;
       whom = (λ m lo hi. j_other (λ st. HasDrawn st m) (λ d. d) (r.whom m lo hi));
       apart = (λ j k x y m atj atk dx dy. r.apart j k x y m (j_came j x m atj dx) (j_came k y m atk dy) dx dy);
-      few = (let a = total_set marks s.views id v (with v w) here in let b = total_set marks (set s.views id (with v w)) other w spent (set_else s.views id other (with v w) apart ∙ there) in let q = r.few in omega arith);
-      shared = (let a = total_set parts s.views id v (with v w) here in let b = total_set parts (set s.views id (with v w)) other w spent (set_else s.views id other (with v w) apart ∙ there) in let q = r.shared in
+      few = (let a = joined_total s.views id other v w (with v w) spent here there apart marks in let q = r.few in omega arith);
+      shared = (let a = joined_total s.views id other v w (with v w) spent here there apart parts in let q = r.shared in
           let c = part_live v.stage (v.gives + length v.ended + 1) jlive in let d = part_live v.stage (v.gives + length (w.ended ++ w.own ∷ v.ended) + 1) jlive in let e = part_live w.stage (w.gives + length w.ended + 1) jlive' in
           let l = length-append w.ended (w.own ∷ v.ended) in let z = gave_all in omega arith);
       within = (let l = jlong in let q = r.within in omega arith);

@@ -12,8 +12,10 @@ use Rattle.turn_lock.specs.declared.knowledge.View.{View}
 use Rattle.turn_lock.specs.declared.knowledge.Stage.{Stage}
 use Rattle.turn_lock.specs.declared.knowledge.Stage.TheVariants.{Spent, Idle, Marked, Drawn, Serving}
 use Rattle.turn_lock.specs.Under.{under}
-use Rattle.turn_lock.specs.Rule.{total, Begins, turned_to, after, Live, IsServing, HasDrawn, mark_of, marks, parts, InStage, Kept, checked, drew, looked, passed}
-use Rattle.turn_lock.proofs.Views.{total_set, total_le, marks_live, begins_refl, begins_more, under-other}
+use Rattle.turn_lock.specs.Rule.{Begins, turned_to, after, Live, IsServing, HasDrawn, mark_of, marks, parts, InStage, TurnRule, checked, drew, looked, passed}
+use Rattle.shared_seats.specs.Seats.{total}
+use Rattle.turn_lock.proofs.Views.{marks_live, begins_refl, begins_more, under-other}
+use Rattle.shared_seats.proofs.Lists.{total_set, total_le}
 use Rattle.turn_lock.proofs.Moves.{Owes, moved}
 
 item_or : {T : Type 0} → T → Option T → T
@@ -36,18 +38,18 @@ module _ {T E : Type 0} (history : T → List E) (whose : E → Option ℕ) (sta
   abbrev S : Type 0
   S = State (Option T) (View E)
 
-  abbrev Keeps : S → Type 0
-  Keeps = Kept history whose start callers
+  abbrev Holds : S → Type 0
+  Holds = TurnRule history whose start callers
 
   -- another seat has P, where this one has not
   other : (P : View E → Type 0) (views : List (View E)) (id : ℕ) (v : View E) → get_elem? views id ≡ some v → ¬ (P v) → ((k : ℕ) × (u : View E) × (get_elem? views k ≡ some u) × P u)
       → (k : ℕ) × (u : View E) × (k ≢ id) × (get_elem? views k ≡ some u) × P u
   other P views id v here not (k, u, at, p) = (k, u, (λ e. not (subst P (some-injective u v (sym at ∙ (ap (get_elem? views) e ∙ here))) p)), at, p)
 
-  word_of : (s : S) (r : Keeps s) → get_or s.words 0 0 ≡ r.ticket
+  word_of : (s : S) (r : Holds s) → get_or s.words 0 0 ≡ r.ticket
   word_of s r = ap (λ (l : List ℕ). get_or l 0 0) r.words_are
 
-  turn_of : (s : S) (r : Keeps s) → get_or s.words 1 0 ≡ start + length r.log
+  turn_of : (s : S) (r : Holds s) → get_or s.words 1 0 ≡ start + length r.log
   turn_of s r = ap (λ (l : List ℕ). get_or l 1 0) r.words_are
 
   in_more : (log : List E) (t t' : ℕ) → t ≤ t' → (st : Stage E) → InStage start log t st → InStage start log t' st
@@ -93,7 +95,7 @@ module _ {T E : Type 0} (history : T → List E) (whose : E → Option ℕ) (sta
   live_serving (Serving m note) d = tt
 
   -- a step that changes only the stage, to one that has drawn nothing and serves nothing, and the number read
-  rests : (s : S) (r : Keeps s) (id : ℕ) (v : View E) (st : Stage E) (read : ℕ) → get_elem? s.views id ≡ some v → Live v.stage → Live st → ((n : ℕ) → ¬ (HasDrawn v.stage n)) → ((n : ℕ) → ¬ (HasDrawn st n)) → ¬ (IsServing v.stage)
+  rests : (s : S) (r : Holds s) (id : ℕ) (v : View E) (st : Stage E) (read : ℕ) → get_elem? s.views id ≡ some v → Live v.stage → Live st → ((n : ℕ) → ¬ (HasDrawn v.stage n)) → ((n : ℕ) → ¬ (HasDrawn st n)) → ¬ (IsServing v.stage)
       → InStage start r.log r.ticket st → read ≤ r.ticket → r.ticket + mark_of st + total marks s.views ≤ 2 ^ 62 + callers + mark_of v.stage
       → Owes history whose start callers s r id v (turned_to st read v) r.log r.ticket s.homes
   rests s r id v st read at live live' undrawn undrawn' unserved stage low few =
@@ -119,7 +121,7 @@ module _ {T E : Type 0} (history : T → List E) (whose : E → Option ℕ) (sta
         slot = ⊎_elim (λ h. inl h) (λ (none_home, who). inr (none_home, inr (other (λ u. IsServing u.stage) s.views id v at unserved who))) r.slot;
       }
 
-  pub checks : (slots id : ℕ) (me : M) → me.0.stage ≡ Idle → Allows Keeps slots id me 0 (λ n. n) (checked history (step slots 0 0 0 none) me)
+  pub checks : (slots id : ℕ) (me : M) → me.0.stage ≡ Idle → Allows Holds slots id me 0 (λ n. n) (checked history (step slots 0 0 0 none) me)
   checks slots id me idle s r one at _ =
       let v : View E = me.0 in let n : ℕ = get_or s.words 0 0 in let t : ℕ = r.ticket in let is : n ≡ t = word_of s r in
       let live : Live v.stage = subst Live (sym idle) tt in
@@ -147,7 +149,7 @@ module _ {T E : Type 0} (history : T → List E) (whose : E → Option ℕ) (sta
         (refl, (λ _. refl), (λ more. absurd (fresh more)), grown),
       ))
 
-  pub draws : (slots id : ℕ) (me : M) → me.0.stage ≡ Marked → Allows Keeps slots id me 0 (λ n. (n + 1) % 2 ^ 64) (drew history (step slots 0 1 0 none) me)
+  pub draws : (slots id : ℕ) (me : M) → me.0.stage ≡ Marked → Allows Holds slots id me 0 (λ n. (n + 1) % 2 ^ 64) (drew history (step slots 0 1 0 none) me)
   draws slots id me marked s r one at _ =
       let v : View E = me.0 in let n : ℕ = get_or s.words 0 0 in let t : ℕ = r.ticket in let is : n ≡ t = word_of s r in
       let live : Live v.stage = subst Live (sym marked) tt in
@@ -184,10 +186,10 @@ module _ {T E : Type 0} (history : T → List E) (whose : E → Option ℕ) (sta
       (w, keeps, tt, moved history whose start callers s r id v w r.log (t + 1) s.homes o (set s.words 0 ((n + 1) % 2 ^ 64)) words, refl)
 
   -- the words stay where one of them is written as it was
-  rewritten : (s : S) (r : Keeps s) → set s.words 1 (get_or s.words 1 0) ≡ s.words
+  rewritten : (s : S) (r : Holds s) → set s.words 1 (get_or s.words 1 0) ≡ s.words
   rewritten s r = ap₂ (λ (l : List ℕ) (m : ℕ). set l 1 m) r.words_are (turn_of s r) ∙ sym r.words_are
 
-  pub looks : (slots id : ℕ) (me : M) (d : ℕ) → me.0.stage ≡ Drawn d → Allows Keeps slots id me 1 (λ n. n) (looked history whose (step slots 1 0 0 none) me)
+  pub looks : (slots id : ℕ) (me : M) (d : ℕ) → me.0.stage ≡ Drawn d → Allows Holds slots id me 1 (λ n. n) (looked history whose (step slots 1 0 0 none) me)
   looks slots id me d drawn s r one at _ =
       let v : View E = me.0 in let n : ℕ = get_or s.words 1 0 in let t : ℕ = r.ticket in let is : n ≡ start + length r.log = turn_of s r in
       let live : Live v.stage = subst Live (sym drawn) tt in let f = r.seats id v at live in
@@ -245,15 +247,15 @@ module _ {T E : Type 0} (history : T → List E) (whose : E → Option ℕ) (sta
         v,
         keeps,
         tt,
-        subst (λ (z : List ℕ × List (View E)). Keeps record { words = z.0; homes = s.homes; views = z.1 }) (λ i. (sym (rewritten s r) i, sym (set_again s.views id v at) i)) r,
+        subst (λ (z : List ℕ × List (View E)). Holds record { words = z.0; homes = s.homes; views = z.1 }) (λ i. (sym (rewritten s r) i, sym (set_again s.views id v at) i)) r,
         λ d' st'. let same : d ≡ d' = cc in ((λ hit. absurd (miss (hit ∙ sym same))), (λ _. refl)),
       ))
 
-  slots_one : (s : S) (r : Keeps s) (x : Option T) → set s.homes 0 (some x) ≡ some x ∷ []
+  slots_one : (s : S) (r : Holds s) (x : Option T) → set s.homes 0 (some x) ≡ some x ∷ []
   slots_one s r x = ⊎_elim (λ (y, home, hist). ap (λ (l : List (maybe.Option (Option T))). set l 0 (some x)) home) (λ (away, who). ap (λ (l : List (maybe.Option (Option T))). set l 0 (some x)) away) r.slot
 
   pub passes : (slots id : ℕ) (me : M) (d : ℕ) (note : List E) (x : T) (e : E) → me.0.stage ≡ Serving d note → me.1 ≡ (0, Some x) ∷ [] → history x ≡ note ++ e ∷ [] → (whose e ≡ Some me.0.own.number) ⊎ (whose e ≡ None)
-      → Allows Keeps slots id me 1 (λ n. (n + 1) % 2 ^ 64) (passed history whose (step slots 1 1 0 none) me)
+      → Allows Holds slots id me 1 (λ n. (n + 1) % 2 ^ 64) (passed history whose (step slots 1 1 0 none) me)
   passes slots id me d note x e serving holds hist stands s r one at _ =
       let v : View E = me.0 in let n : ℕ = get_or s.words 1 0 in let t : ℕ = r.ticket in let is : n ≡ start + length r.log = turn_of s r in
       let live : Live v.stage = subst Live (sym serving) tt in let f = r.seats id v at live in
@@ -291,7 +293,7 @@ module _ {T E : Type 0} (history : T → List E) (whose : E → Option ℕ) (sta
         w,
         gives,
         tt,
-        subst (λ (c : List (ℕ × Option T)). Keeps (stepped s 1 ((n + 1) % 2 ^ 64) id c w gives)) (sym holds) (moved history whose start callers s r id v w log t homes' o (set s.words 1 ((n + 1) % 2 ^ 64)) words),
+        subst (λ (c : List (ℕ × Option T)). Holds (stepped s 1 ((n + 1) % 2 ^ 64) id c w gives)) (sym holds) (moved history whose start callers s r id v w log t homes' o (set s.words 1 ((n + 1) % 2 ^ 64)) words),
         λ x' eq. let back : carried_after me.1 gives ≡ [] = ap (λ (c : List (ℕ × Option T)). carried_after c gives) holds in
             let same : x ≡ x' = one_item x x' [] [] (sym holds ∙ eq) in ap₂ (λ (z : T) (c : List (ℕ × Option T)). (after whose (history z) v, c)) same back,
       )

@@ -9,52 +9,16 @@ use Rattle.turn_lock.specs.declared.knowledge.View.{View}
 use Rattle.turn_lock.specs.declared.knowledge.Stage.{Stage}
 use Rattle.turn_lock.specs.declared.knowledge.Stage.TheVariants.{Spent, Idle, Marked, Drawn, Serving}
 use Rattle.turn_lock.specs.Under.{is_of, under}
-use Rattle.turn_lock.specs.Rule.{total, Begins, Live, IsServing, HasDrawn, mark_of, marks, parts_of, parts}
+use Rattle.turn_lock.specs.Rule.{Begins, Live, IsServing, HasDrawn, mark_of, marks, parts_of, parts}
+use Rattle.shared_seats.specs.Seats.{total}
 
 module _ {A : Type 0} where
-  pub at_length : (l : List A) (i : ℕ) (a : A) → get_elem? l i ≡ some a → i < length l
-  at_length [] i a e = absurd (some-ne-none a (sym e))
-  at_length (x ∷ xs) zero a e = omega arith
-  at_length (x ∷ xs) (suc i) a e = let h = at_length xs i a e in omega arith
-
-  pub total_set : (f : A → ℕ) (l : List A) (i : ℕ) (a b : A) → get_elem? l i ≡ some a → total f (set l i b) + f a ≡ total f l + f b
-  total_set f [] i a b e = absurd (some-ne-none a (sym e))
-  total_set f (x ∷ xs) zero a b e = let h : f x ≡ f a = ap f (some-injective x a e) in omega arith
-  total_set f (x ∷ xs) (suc i) a b e = let h = total_set f xs i a b e in omega arith
-
-  pub total_le : (f g : A → ℕ) → ((a : A) → f a ≤ g a) → (l : List A) → total f l ≤ total g l
-  total_le f g h [] = omega arith
-  total_le f g h (x ∷ xs) = let p = total_le f g h xs in let q = h x in omega arith
-
-  pub total_snoc : (f : A → ℕ) (l : List A) (a : A) → total f (l ++ a ∷ []) ≡ total f l + f a
-  total_snoc f [] a = omega arith
-  total_snoc f (x ∷ xs) a = let h = total_snoc f xs a in omega arith
-
-  pub at_end : (l : List A) (a b : A) (j : ℕ) → get_elem? (l ++ a ∷ []) j ≡ some b → (get_elem? l j ≡ some b) ⊎ ((j ≡ length l) × (a ≡ b))
-  at_end [] a b zero e = inr (refl, some-injective a b e)
-  at_end [] a b (suc j) e = absurd (some-ne-none b (sym e))
-  at_end (x ∷ xs) a b zero e = inl e
-  at_end (x ∷ xs) a b (suc j) e = ⊎_elim (λ h. inl h) (λ h. inr (let q = h.0 in omega arith, h.1)) (at_end xs a b j e)
-
   -- in x ∷ ys behind xs
   pub at_both : (xs ys : List A) (y b : A) (j : ℕ) → get_elem? (xs ++ y ∷ ys) j ≡ some b → (get_elem? xs j ≡ some b) ⊎ ((y ≡ b) ⊎ ((i : ℕ) × (get_elem? ys i ≡ some b)))
   at_both [] ys y b zero e = inr (inl (some-injective y b e))
   at_both [] ys y b (suc j) e = inr (inr (j, e))
   at_both (x ∷ xs) ys y b zero e = inl e
   at_both (x ∷ xs) ys y b (suc j) e = at_both xs ys y b j e
-
-  pub at_first : (xs ys : List A) (b : A) (j : ℕ) → get_elem? xs j ≡ some b → get_elem? (xs ++ ys) j ≡ some b
-  at_first [] ys b j e = absurd (some-ne-none b (sym e))
-  at_first (x ∷ xs) ys b zero e = e
-  at_first (x ∷ xs) ys b (suc j) e = at_first xs ys b j e
-
-  pub at_second : (xs ys : List A) (b : A) (j : ℕ) → get_elem? ys j ≡ some b → (i : ℕ) × (get_elem? (xs ++ ys) i ≡ some b)
-  at_second [] ys b j e = (j, e)
-  at_second (x ∷ xs) ys b j e = let h = at_second xs ys b j e in (suc h.0, h.1)
-
-  pub one_at : (a b : A) (j : ℕ) → get_elem? (a ∷ []) j ≡ some b → (j ≡ 0) × (a ≡ b)
-  one_at a b zero e = (refl, some-injective a b e)
-  one_at a b (suc j) e = absurd (some-ne-none b (sym e))
 
   pub left_nil : (xs ys : List A) → xs ++ ys ≡ [] → xs ≡ []
   left_nil [] ys e = refl
@@ -110,9 +74,6 @@ module _ {E : Type 0} where
 
   pub parts_live : (a b : Stage E) (n : ℕ) → Live a → Live b → parts_of a n ≡ parts_of b n
   parts_live a b n x y = part_live a n x ∙ sym (part_live b n y)
-
-  pub apart_serving : (a : Stage E) (n : ℕ) → IsServing a → HasDrawn a n → ⊥ → ⊥
-  apart_serving a n s d b = b
 
   pub marks_live : (v : View E) → marks v ≤ parts v
   marks_live v = mark_le v.stage (v.gives + length v.ended + 1) (omega arith)

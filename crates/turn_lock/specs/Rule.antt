@@ -4,16 +4,12 @@ use mathlib.Core.Option.{some, none}
 use mathlib.Core.Option as maybe
 use lib.ListN.{get_elem?}
 use Rattle.atomic_table.specs.Table.{State, Me, Step}
+use Rattle.shared_seats.specs.Seats.{total}
 use Rattle.turn_lock.specs.declared.knowledge.Known.{Known}
 use Rattle.turn_lock.specs.declared.knowledge.View.{View}
 use Rattle.turn_lock.specs.declared.knowledge.Stage.{Stage}
 use Rattle.turn_lock.specs.declared.knowledge.Stage.TheVariants.{Spent, Idle, Marked, Drawn, Serving}
 use Rattle.turn_lock.specs.Under.{under}
-
--- A sum over a list.
-abbrev pub total : {A : Type 0} → (A → ℕ) → List A → ℕ
-total f [] = 0
-total f (x ∷ xs) = f x + total f xs
 
 -- The history begins with what was seen.
 abbrev pub Begins : {E : Type 0} → List E → List E → Type 0
@@ -130,7 +126,7 @@ module _ {T E : Type 0} (history : T → List E) where
   Home log homes = (t : T) × (homes ≡ some (Some t) ∷ []) × (history t ≡ log)
 
   -- What holds between any two steps.
-  pub record Kept (whose : E → Option ℕ) (start callers : ℕ) (s : State (Option T) (View E)) : Type 0 where
+  pub record TurnRule (whose : E → Option ℕ) (start callers : ℕ) (s : State (Option T) (View E)) : Type 0 where
     -- The history, and the ticket that is drawn next.
     pub log : List E
     pub ticket : ℕ

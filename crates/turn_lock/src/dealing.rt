@@ -1,4 +1,4 @@
-//! How a lock is made and closed.
+//! How a lock is made and closed: one seat is divided into as many passes as there are callers, and at the end they are joined again.
 ghost use Rattle.std.specs.Prelude.{◌≡◌, ℕ, ◌+◌, ◌-◌, ◌^◌, ◌<◌, ◌≤◌, List, [], ◌∷◌, ◌++◌, map, length, vec_len, vec_capacity, Some, None, IfOk, All};
 ghost use Rattle.turn_lock.specs.declared.knowledge.Stage.TheVariants.{Idle};
 ghost use Rattle.turn_lock.specs.Rule.{without_one, the_one, with, dealt};

@@ -1,4 +1,4 @@
-//! A turn, in its steps.
+//! A turn, in its steps: a check, a ticket, the wait for it, the play on the state, and the step to the next ticket.
 ghost use Rattle.std.specs.Prelude.{◌≡◌, ◌≢◌, ℕ, ◌+◌, ◌^◌, ◌<◌, ◌≤◌, ◌⊎◌, List, [], ◌∷◌, ◌++◌, length, Some, None, IfOk, IfErr};
 ghost use mathlib.Core.Option.{none};
 ghost use Rattle.atomic_table.specs.Table.{step, rest};

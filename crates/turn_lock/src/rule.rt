@@ -1,4 +1,4 @@
-//! The rule of the lock's table.
+//! The rule of the lock's table: what holds of its two words, its slot and all passes between any two steps of any threads.
 use crate::knowledge::View;
 use crate::state::Turns;
 use atomic_table::TableRule;
@@ -16,9 +16,9 @@ pub struct InTurn<T> {
 }
 
 impl<T: Turns> TableRule<Option<T>, View<T::Entry>, Setup> for InTurn<T> {
-    ghost use Rattle.turn_lock.specs.Rule.{Kept, newcomer};
+    ghost use Rattle.turn_lock.specs.Rule.{TurnRule, newcomer};
 
-    ghost holds = { λ key. Kept T.history T.whose key.start key.callers };
+    ghost holds = { λ key. TurnRule T.history T.whose key.start key.callers };
 
     ghost first = { λ key. newcomer key.callers };
 }

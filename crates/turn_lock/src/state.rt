@@ -1,4 +1,4 @@
-//! The state behind the lock.
+//! The state behind the lock: what it may be asked, and how it keeps an entry of each turn in its history.
 ghost use Rattle.std.specs.Prelude.{◌≡◌, ℕ, ◌<◌, ◌^◌, ◌⊎◌, List, [], ◌∷◌, ◌++◌, length, Option, Some, None};
 ghost use Rattle.turn_lock.specs.Under.{under};
 

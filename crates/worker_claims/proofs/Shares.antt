@@ -1,5 +1,5 @@
 -- How a board starts, how hands are made and joined, and what is left at the end.
-use Rattle.std.proofs.Common.{◌≡◌, ◌≢◌, ℕ, zero, suc, ◌+◌, ◌-◌, ◌^◌, ◌<◌, ◌≤◌, ◌⊎◌, List, [], ◌∷◌, ◌++◌, length, map, set, sym, refl, ap, ◌∙◌, subst, inl, inr, ⊎_elim, arith}
+use Rattle.std.proofs.Common.{◌≡◌, ◌≢◌, ℕ, suc, ◌+◌, ◌-◌, ◌^◌, ◌<◌, ◌≤◌, ◌⊎◌, List, [], ◌∷◌, length, map, sym, refl, ap, ◌∙◌, subst, inl, inr, ⊎_elim, arith}
 use Rattle.std.specs.Prelude.{Option, Some}
 use mathlib.Core.Option.{some, some-injective, some-ne-none}
 use mathlib.Core.Option as maybe
@@ -7,41 +7,41 @@ use mathlib.Core.Logic.{dite}
 use native.Mathlib.Decide.{ℕ_discrete}
 use lib.ListN.{get_elem?}
 use Rattle.atomic_table.specs.Table.{State, Splits, Joins, Final, Seen, opening}
-use Rattle.atomic_table.proofs.Lists.{at_set, set_here, set_else, at_map}
+use Rattle.atomic_table.proofs.Lists.{set_else, at_map}
 use Rattle.worker_claims.specs.declared.knowledge.View.{View}
 use Rattle.worker_claims.specs.declared.knowledge.Doing.{Doing}
-use Rattle.worker_claims.specs.declared.knowledge.Doing.TheVariants.{Spent, Free, Held, Ended}
-use Rattle.worker_claims.specs.Rule.{total, Live, one_if, in_hand, comers, newcomer, spent, without_one, the_one, with, has, parts, rest_of, InDoing, SeatFits, Claimed, Kept}
+use Rattle.worker_claims.specs.declared.knowledge.Doing.TheVariants.{Spent, Free, HasTask, Ended}
+use Rattle.worker_claims.specs.Rule.{Live, one_if, in_hand, comers, newcomer, spent, without_one, the_one, with, has, parts, rest_of, InDoing, SeatFits, Claimed, ClaimRule}
+use Rattle.shared_seats.specs.Seats.{total}
 use Rattle.worker_claims.specs.Hands.{HasEnded, times}
-use Rattle.worker_claims.proofs.Lists.{at_length, total_set, total_snoc, total_append, at_end, at_first, at_second, one_of, two_of}
+use Rattle.shared_seats.specs.Seats.{divided, joined as joined_views}
+use Rattle.shared_seats.proofs.Lists.{same_at, total_append, at_second, one_at, one_of, two_of}
+use Rattle.shared_seats.proofs.Seats.{divided_here, divided_else, divided_which, divided_total, joined_here, joined_else, joined_which, joined_total}
+use Rattle.atomic_table.proofs.Lists.{at_longer}
 
 only : (d : Doing) → (d ≡ Spent) ⊎ Live d
 only Spent = inl refl
 only Free = inr tt
-only (Held n) = inr tt
+only (HasTask n) = inr tt
 only (Ended n) = inr tt
 
-free_not_held : (k : ℕ) → Free ≡ Held k → ⊥
+free_not_held : (k : ℕ) → Free ≡ HasTask k → ⊥
 free_not_held k e = cc
 
-ended_not_held : (n k : ℕ) → Ended n ≡ Held k → ⊥
+ended_not_held : (n k : ℕ) → Ended n ≡ HasTask k → ⊥
 ended_not_held n k e = cc
 
 pub ended_at : (d : Doing) → HasEnded d → (n : ℕ) × (d ≡ Ended n)
 ended_at Spent h = absurd h
 ended_at Free h = absurd h
-ended_at (Held k) h = absurd h
+ended_at (HasTask k) h = absurd h
 ended_at (Ended n) h = (n, refl)
 
-held_live : (d : Doing) (k : ℕ) → d ≡ Held k → Live d
+held_live : (d : Doing) (k : ℕ) → d ≡ HasTask k → Live d
 held_live d k e = subst Live (sym e) tt
 
 free_not_spent : Free ≡ Spent → ⊥
 free_not_spent e = cc
-
-one_at : {A : Type 0} (a b : A) (j : ℕ) → get_elem? (a ∷ []) j ≡ some b → a ≡ b
-one_at a b zero e = some-injective a b e
-one_at a b (suc j) e = absurd (some-ne-none b (sym e))
 
 long : {T : Type 0} (l : List T) → length (map {A = Option T} {B = maybe.Option (Option T)} some (map Some l)) ≡ length l
 long [] = refl
@@ -49,7 +49,7 @@ long (x ∷ xs) = ap suc (long xs)
 
 module _ {T : Type 0} (tasks : List T) (hands : ℕ) where
   abbrev K : State (Option T) (View T) → Type 0
-  K = Kept tasks hands
+  K = ClaimRule tasks hands
 
   pub starts : (words : List ℕ) (slots : List (Option T)) → words ≡ 0 ∷ [] → slots ≡ map Some tasks → length tasks < 2 ^ 32 → 0 < hands → hands ≤ 16 → K (opening words slots (newcomer tasks hands))
   starts words slots ws xs few_tasks some_hand few_hands = let v : View T = newcomer tasks hands in record {
@@ -57,8 +57,8 @@ module _ {T : Type 0} (tasks : List T) (hands : ℕ) where
     words_are = ws;
     limit = (few_tasks, few_hands);
     slots = ap (λ (l : List (Option T)). length (map some l)) xs ∙ long tasks;
-    seats = (λ j u at lv. let e = one_at (newcomer tasks hands) u j at in subst (SeatFits tasks 0) e record { tasks_are = refl; some_part = some_hand; doing = tt });
-    gone = (λ j u at sp. absurd (free_not_spent (ap (λ (z : View T). z.doing) (one_at (newcomer tasks hands) u j at) ∙ sp)));
+    seats = (λ j u at lv. let e = (one_at (newcomer tasks hands) u j at).1 in subst (SeatFits tasks 0) e record { tasks_are = refl; some_part = some_hand; doing = tt });
+    gone = (λ j u at sp. absurd (free_not_spent (ap (λ (z : View T). z.doing) (one_at (newcomer tasks hands) u j at).1 ∙ sp)));
     few = omega arith;
     shared = omega arith;
     fresh = (λ k x le at. ap (λ (l : List (Option T)). get_elem? (map some l) k) xs ∙ at_map some (map Some tasks) k (Some x) (at_map Some tasks k x at));
@@ -68,11 +68,8 @@ module _ {T : Type 0} (tasks : List T) (hands : ℕ) where
   }
 
   module _ (s : State (Option T) (View T)) (r : K s) (id : ℕ) (v : View T) (here : get_elem? s.views id ≡ some v) (free : v.doing ≡ Free) (some_left : 1 < v.parts) where
-    abbrev L : List (View T)
-    L = set s.views id (without_one v)
-
     abbrev V : List (View T)
-    V = L ++ the_one v ∷ []
+    V = divided s.views id (without_one v) (the_one v)
 
     live : Live v.doing
     live = subst Live (sym free) tt
@@ -81,26 +78,23 @@ module _ {T : Type 0} (tasks : List T) (hands : ℕ) where
     f = r.seats id v here live
 
     at_id : get_elem? V id ≡ some (without_one v)
-    at_id = at_first L (the_one v ∷ []) (without_one v) id (set_here s.views id (without_one v) (at_length s.views id v here))
+    at_id = divided_here s.views id v (without_one v) (the_one v) here
 
     at_old : (k : ℕ) (u : View T) → k ≢ id → get_elem? s.views k ≡ some u → get_elem? V k ≡ some u
-    at_old k u ne at = at_first L (the_one v ∷ []) u k (set_else s.views id k (without_one v) ne ∙ at)
+    at_old = divided_else s.views id v (without_one v) (the_one v) here
 
     which : (P : View T → Type 0) → P (without_one v) → ((k : ℕ) (u : View T) → get_elem? s.views k ≡ some u → P u) → P (the_one v) → (k : ℕ) (u : View T) → get_elem? V k ≡ some u → P u
-    which P a b c k u at = ⊎_elim
-        (λ old. ⊎_elim (λ (e, is). subst P is a) (λ (ne, at'). b k u at') (at_set s.views id k (without_one v) u old))
-        (λ (e, is). subst P is c)
-        (at_end L (the_one v) u k at)
+    which P a b c = divided_which s.views id v (without_one v) (the_one v) here (λ _ u. P u) a (λ k u _ at. b k u at) c
 
     still : (k : ℕ) → Claimed s.views s.homes k → Claimed V s.homes k
-    still k (inl (j, u, at, held)) = inl (j, u, at_old j u (λ e. free_not_held k (sym free ∙ (ap (λ (z : View T). z.doing) (some-injective v u (sym here ∙ (ap (get_elem? s.views) (sym e) ∙ at))) ∙ held))) at, held)
+    still k (inl (j, u, at, held)) = inl (j, u, at_old j u (λ e. free_not_held k (sym free ∙ (ap (λ (z : View T). z.doing) (same_at s.views id j v u here at (sym e)) ∙ held))) at, held)
     still k (inr (j, u, i, t, at, lv, in_given, home)) = dite (ℕ_discrete j id)
-        (λ e. inr (id, without_one v, i, t, at_id, live, subst (λ (z : View T). get_elem? z.given i ≡ some (k, t)) (some-injective u v (sym at ∙ (ap (get_elem? s.views) e ∙ here))) in_given, home))
+        (λ e. inr (id, without_one v, i, t, at_id, live, subst (λ (z : View T). get_elem? z.given i ≡ some (k, t)) (same_at s.views j id u v at here e) in_given, home))
         (λ ne. inr (j, u, i, t, at_old j u ne at, lv, in_given, home))
 
     had : (k : ℕ) → total (has k) V ≡ total (has k) s.views
-    had k = let a = total_set (has k) s.views id v (without_one v) here in let b = total_snoc (has k) L (the_one v) in
-        let x : ℕ = has k v in let y : ℕ = total (has k) L in let z : ℕ = total (has k) s.views in omega arith
+    had k = let a = divided_total s.views id v (without_one v) (the_one v) here (has k) in
+        let x : ℕ = has k v in let y : ℕ = total (has k) V in let z : ℕ = total (has k) s.views in omega arith
 
     split : K record { words = s.words; homes = s.homes; views = V }
     split = record {
@@ -113,9 +107,9 @@ module _ {T : Type 0} (tasks : List T) (hands : ℕ) where
           (λ k u at lv. r.seats k u at lv)
           (λ lv. record { tasks_are = f.tasks_are; some_part = omega arith; doing = tt });
       gone = which (λ u. u.doing ≡ Spent → u ≡ spent) (λ sp. absurd (subst Live sp live)) (λ k u at sp. r.gone k u at sp) (λ sp. absurd (free_not_spent sp));
-      few = (let a = total_set rest_of s.views id v (without_one v) here in let b = total_snoc rest_of L (the_one v) in let q = r.few in
+      few = (let a = divided_total s.views id v (without_one v) (the_one v) here rest_of in let q = r.few in
           let c : rest_of v ≡ v.parts = ap (comers v.parts) free in let d : rest_of (without_one v) ≡ v.parts - 1 = ap (comers (v.parts - 1)) free in omega arith);
-      shared = (let a = total_set parts s.views id v (without_one v) here in let b = total_snoc parts L (the_one v) in let q = r.shared in omega arith);
+      shared = (let a = divided_total s.views id v (without_one v) (the_one v) here parts in let q = r.shared in omega arith);
       fresh = r.fresh;
       done = (λ k lo hi. still k (r.done k lo hi));
       once = (λ k. let h = had k in let q = r.once k in let y : ℕ = total (has k) V in let z : ℕ = total (has k) s.views in omega arith);
@@ -127,7 +121,7 @@ module _ {T : Type 0} (tasks : List T) (hands : ℕ) where
 
   module _ (s : State (Option T) (View T)) (r : K s) (id other : ℕ) (v w : View T) (here : get_elem? s.views id ≡ some v) (there' : get_elem? s.views other ≡ some w) (apart : other ≢ id) (n n' : ℕ) (ended : v.doing ≡ Ended n) (ended' : w.doing ≡ Ended n') where
     abbrev J : List (View T)
-    J = set (set s.views id (with v w)) other spent
+    J = joined_views s.views id other (with v w) spent
 
     jlive : Live v.doing
     jlive = subst Live (sym ended) tt
@@ -139,38 +133,31 @@ module _ {T : Type 0} (tasks : List T) (hands : ℕ) where
     jf = r.seats id v here jlive
 
     j_at_id : get_elem? J id ≡ some (with v w)
-    j_at_id = set_else (set s.views id (with v w)) other id spent (λ e. apart (sym e)) ∙ set_here s.views id (with v w) (at_length s.views id v here)
+    j_at_id = joined_here s.views id other v w (with v w) spent here there' apart
 
     j_at_old : (k : ℕ) (u : View T) → k ≢ id → k ≢ other → get_elem? s.views k ≡ some u → get_elem? J k ≡ some u
-    j_at_old k u ni nt at = set_else (set s.views id (with v w)) other k spent nt ∙ (set_else s.views id k (with v w) ni ∙ at)
+    j_at_old = joined_else s.views id other v w (with v w) spent here there' apart
 
     j_which : (P : View T → Type 0) → P (with v w) → ((k : ℕ) (u : View T) → get_elem? s.views k ≡ some u → P u) → P spent → (k : ℕ) (u : View T) → get_elem? J k ≡ some u → P u
-    j_which P a b c k u at = ⊎_elim
-        (λ (e, is). subst P is c)
-        (λ (nt, at'). ⊎_elim (λ (e, is). subst P is a) (λ (ni, at''). b k u at'') (at_set s.views id k (with v w) u at'))
-        (at_set (set s.views id (with v w)) other k spent u at)
-
-    j_same : (x y : View T) (j k : ℕ) → get_elem? s.views j ≡ some x → get_elem? s.views k ≡ some y → j ≡ k → x ≡ y
-    j_same x y j k a b e = some-injective x y (sym a ∙ (ap (get_elem? s.views) e ∙ b))
+    j_which P a b c = joined_which s.views id other v w (with v w) spent here there' apart (λ _ u. P u) a (λ k u _ _ at. b k u at) c
 
     j_still : (k : ℕ) → Claimed s.views s.homes k → Claimed J s.homes k
     j_still k (inl (j, u, at, held)) = inl (
       j,
       u,
       j_at_old j u
-          (λ e. ended_not_held n k (sym ended ∙ (ap (λ (z : View T). z.doing) (j_same v u id j here at (sym e)) ∙ held)))
-          (λ e. ended_not_held n' k (sym ended' ∙ (ap (λ (z : View T). z.doing) (j_same w u other j there' at (sym e)) ∙ held))) at,
+          (λ e. ended_not_held n k (sym ended ∙ (ap (λ (z : View T). z.doing) (same_at s.views id j v u here at (sym e)) ∙ held)))
+          (λ e. ended_not_held n' k (sym ended' ∙ (ap (λ (z : View T). z.doing) (same_at s.views other j w u there' at (sym e)) ∙ held))) at,
       held,
     )
     j_still k (inr (j, u, i, t, at, lv, in_given, home)) = dite (ℕ_discrete j id)
-        (λ e. inr (id, with v w, i, t, j_at_id, jlive, at_first v.given w.given (k, t) i (subst (λ (z : View T). get_elem? z.given i ≡ some (k, t)) (j_same u v j id at here e) in_given), home))
+        (λ e. inr (id, with v w, i, t, j_at_id, jlive, at_longer v.given w.given i (k, t) (subst (λ (z : View T). get_elem? z.given i ≡ some (k, t)) (same_at s.views j id u v at here e) in_given), home))
         (λ ni. dite (ℕ_discrete j other)
-        (λ e. let q = at_second v.given w.given (k, t) i (subst (λ (z : View T). get_elem? z.given i ≡ some (k, t)) (j_same u w j other at there' e) in_given) in inr (id, with v w, q.0, t, j_at_id, jlive, q.1, home))
+        (λ e. let q = at_second v.given w.given (k, t) i (subst (λ (z : View T). get_elem? z.given i ≡ some (k, t)) (same_at s.views j other u w at there' e) in_given) in inr (id, with v w, q.0, t, j_at_id, jlive, q.1, home))
         (λ nt. inr (j, u, i, t, j_at_old j u ni nt at, lv, in_given, home)))
 
     sums : (g : View T → ℕ) → g (with v w) ≡ g v + g w → g spent ≡ 0 → total g J ≡ total g s.views
-    sums g both nothing = let a = total_set g s.views id v (with v w) here in let b = total_set g (set s.views id (with v w)) other w spent (set_else s.views id other (with v w) apart ∙ there') in
-        let x : ℕ = total g J in let y : ℕ = total g s.views in let z : ℕ = total g (set s.views id (with v w)) in omega arith
+    sums g both nothing = let a = joined_total s.views id other v w (with v w) spent here there' apart g in let x : ℕ = total g J in let y : ℕ = total g s.views in omega arith
 
     has_both : (k : ℕ) → has k (with v w) ≡ has k v + has k w
     has_both k = let a = total_append (λ (g : ℕ × T). one_if k g.0) v.given w.given in let b : in_hand k w.doing ≡ 0 = ap (in_hand k) ended' in omega arith
@@ -206,7 +193,7 @@ module _ {T : Type 0} (tasks : List T) (hands : ℕ) where
       let live : Live v.doing = subst Live (sym ended) tt in let f = r.seats id v here live in let found = subst (InDoing tasks r.word) ended f.doing in
       let all_claimed : length tasks ≤ r.word = (let a = found.0 in let b = found.1 in omega arith) in
       let alone : (j : ℕ) (u : View T) → get_elem? s.views j ≡ some u → Live u.doing → u ≡ v = λ j u at' lv. dite (ℕ_discrete j id)
-      (λ e. some-injective u v (sym at' ∙ (ap (get_elem? s.views) e ∙ here)))
+      (λ e. same_at s.views j id u v at' here e)
       (λ ne. let two = two_of parts s.views id j v u here at' ne in let q = r.shared in let p = (r.seats j u at' lv).some_part in absurd (omega arith)) in (
         sym long_is ∙ r.slots,
         (λ k lt. ⊎_elim

@@ -10,11 +10,13 @@ use Rattle.atomic_table.specs.Table.{State, Me, step, keeps, takes, gives, stepp
 use Rattle.atomic_table.proofs.Lists.{at_set, set_here, set_else}
 use Rattle.worker_claims.specs.declared.knowledge.View.{View}
 use Rattle.worker_claims.specs.declared.knowledge.Doing.{Doing}
-use Rattle.worker_claims.specs.declared.knowledge.Doing.TheVariants.{Spent, Free, Held, Ended}
-use Rattle.worker_claims.specs.Rule.{total, Live, one_if, in_hand, comers, at_work, has_given, has, parts, rest_of, InDoing, SeatFits, Claimed, Kept, IsAbove, claimed, gave}
+use Rattle.worker_claims.specs.declared.knowledge.Doing.TheVariants.{Spent, Free, HasTask, Ended}
+use Rattle.worker_claims.specs.Rule.{Live, one_if, in_hand, comers, at_work, has_given, has, parts, rest_of, InDoing, SeatFits, Claimed, ClaimRule, IsAbove, claimed, gave}
+use Rattle.shared_seats.specs.Seats.{total}
 use Rattle.worker_claims.specs.Views.{HandView}
 use Rattle.worker_claims.specs.Hands.{AllWorked, times, times_by}
-use Rattle.worker_claims.proofs.Lists.{at_length, one_of, total_set, total_snoc, total_le, total_append, there, at_first, at_second, at_end}
+use Rattle.shared_seats.proofs.Lists.{at_length, one_of, total_set, total_snoc, total_le, total_append, there, at_second, at_end}
+use Rattle.atomic_table.proofs.Lists.{at_longer}
 
 pub one_same : (k n : ℕ) → k ≡ n → one_if k n ≡ 1
 one_same k n e = ap (λ (b : Bool). cond b 1 0) (eq-eqb k n e)
@@ -40,10 +42,10 @@ one_other k n ne = ap (λ (b : Bool). cond b 1 0) (ne_eqb k n ne)
 comers_le : (n : ℕ) (d : Doing) → comers n d ≤ n
 comers_le n Spent = omega arith
 comers_le n Free = omega arith
-comers_le n (Held k) = omega arith
+comers_le n (HasTask k) = omega arith
 comers_le n (Ended k) = omega arith
 
-held_same : (a b : ℕ) → Held a ≡ Held b → a ≡ b
+held_same : (a b : ℕ) → HasTask a ≡ HasTask b → a ≡ b
 held_same a b e = cc
 
 item_or : {T : Type 0} → T → Option T → T
@@ -68,7 +70,7 @@ one_more works tasks given given' n x y e all at does i k t there' = ⊎_elim
     (λ (_, is). (x, ap (get_elem? tasks) (sym (ap (λ (p : ℕ × _). p.0) is)) ∙ at, subst (λ (p : ℕ × _). works p.0 x p.1) is does))
     (at_end given (n, y) (k, t) i (ap (λ (l : List (ℕ × _)). get_elem? l i) (sym e) ∙ there'))
 
-free_not_held : (k : ℕ) → Free ≡ Held k → ⊥
+free_not_held : (k : ℕ) → Free ≡ HasTask k → ⊥
 free_not_held k e = cc
 
 module _ {T : Type 0} (tasks : List T) (hands : ℕ) where
@@ -79,12 +81,12 @@ module _ {T : Type 0} (tasks : List T) (hands : ℕ) where
   S = State (Option T) (View T)
 
   abbrev K : S → Type 0
-  K = Kept tasks hands
+  K = ClaimRule tasks hands
 
   in_more : (w w' : ℕ) → w ≤ w' → (d : Doing) → InDoing tasks w d → InDoing tasks w' d
   in_more w w' le Spent i = tt
   in_more w w' le Free i = tt
-  in_more w w' le (Held k) i = (i.0, (let j = i.1 in omega arith))
+  in_more w w' le (HasTask k) i = (i.0, (let j = i.1 in omega arith))
   in_more w w' le (Ended n) i = (i.0, (let j = i.1 in omega arith))
 
   pub rest_le : (v : View T) → rest_of v ≤ parts v
@@ -129,7 +131,7 @@ module _ {T : Type 0} (tasks : List T) (hands : ℕ) where
     }
 
   -- what was claimed stays claimed: the seat id, which has nothing in hand, has w now, with all that it gave
-  stays : (s : S) (id : ℕ) (v w : View T) (homes : List (maybe.Option (Option T))) (k : ℕ) → get_elem? s.views id ≡ some v → Live w.doing → ¬ (v.doing ≡ Held k) → ((i : ℕ) (x : ℕ × T) → get_elem? v.given i ≡ some x → get_elem? w.given i ≡ some x)
+  stays : (s : S) (id : ℕ) (v w : View T) (homes : List (maybe.Option (Option T))) (k : ℕ) → get_elem? s.views id ≡ some v → Live w.doing → ¬ (v.doing ≡ HasTask k) → ((i : ℕ) (x : ℕ × T) → get_elem? v.given i ≡ some x → get_elem? w.given i ≡ some x)
       → (get_elem? homes k ≡ get_elem? s.homes k) → Claimed s.views s.homes k → Claimed (set s.views id w) homes k
   stays s id v w homes k here live free kept same (inl (j, u, at, is)) =
       inl (j, u, set_else s.views id j w (λ e. free (ap (λ (z : View T). z.doing) (some-injective v u (sym here ∙ (ap (get_elem? s.views) (sym e) ∙ at))) ∙ is)) ∙ at, is)
@@ -160,7 +162,7 @@ module _ {T : Type 0} (tasks : List T) (hands : ℕ) where
       let same_length : length v.tasks ≡ length tasks = ap length f.tasks_are in
       let rises : IsAbove v.given n = subst (IsAbove v.given) (sym is) (above s r id v at) in
       dite (dec_lt n (length v.tasks))
-      (λ lt. let got = there v.tasks n lt in let x : T = got.0 in let w : View T = at_work (Held n) v in
+      (λ lt. let got = there v.tasks n lt in let x : T = got.0 in let w : View T = at_work (HasTask n) v in
       let at_n : get_elem? tasks n ≡ some x = ap (λ (l : List T). get_elem? l n) (sym f.tasks_are) ∙ got.1 in
       let home : get_elem? s.homes n ≡ some (some (Some x)) = r.fresh n x (omega arith) at_n in
       let hand : (k : ℕ) → has k w ≡ one_if k n + has k v = λ k. let z : in_hand k v.doing ≡ 0 = ap (in_hand k) free in omega arith in
@@ -175,7 +177,7 @@ module _ {T : Type 0} (tasks : List T) (hands : ℕ) where
         few = (let q = same_length in omega arith);
         fresh = (λ k y le at_k. let ne : k ≢ n = (λ e. omega arith) in set_else s.homes n k none ne ∙ r.fresh k y (omega arith) at_k);
         done = (λ k lo hi. dite (ℕ_discrete k n)
-            (λ e. inl (id, w, set_here s.views id w (at_length s.views id v at), ap Held (sym e)))
+            (λ e. inl (id, w, set_here s.views id w (at_length s.views id v at), ap HasTask (sym e)))
             (λ ne. stays s id v w (set s.homes n none) k at tt (λ h. absurd (free_not_held k (sym free ∙ h))) (λ i y q. q) (set_else s.homes n k none ne) (r.done k (omega arith) hi)));
         once = (λ k. let h = hand k in let q = r.once k in dite (ℕ_discrete k n)
             (λ e. let z = r.unclaimed k (omega arith) in let y = one_same k n e in let a : ℕ = has k w in let b : ℕ = has k v in let c : ℕ = total (has k) s.views in let d : ℕ = one_if k n in omega arith)
@@ -206,7 +208,7 @@ module _ {T : Type 0} (tasks : List T) (hands : ℕ) where
       } in
       (w, keeps, tt, moved s r id v w (t + 1) s.homes live o (set s.words 0 ((n + 1) % 2 ^ 64)) words, ((λ lt. absurd (ge lt)), (λ _. refl), rises)))
 
-  pub gives_back : (slots id : ℕ) (me : M) (k : ℕ) (t : T) → me.0.doing ≡ Held k → me.1 ≡ (k, Some t) ∷ [] → Allows K slots id me 0 (λ n. n) (gave (step slots 0 0 0 none) me)
+  pub gives_back : (slots id : ℕ) (me : M) (k : ℕ) (t : T) → me.0.doing ≡ HasTask k → me.1 ≡ (k, Some t) ∷ [] → Allows K slots id me 0 (λ n. n) (gave (step slots 0 0 0 none) me)
   gives_back slots id me k t held holds s r long at _ =
       let v : View T = me.0 in let n : ℕ = get_or s.words 0 0 in
       let live : Live v.doing = subst Live (sym held) tt in let f = r.seats id v at live in
@@ -229,7 +231,7 @@ module _ {T : Type 0} (tasks : List T) (hands : ℕ) where
         done = (λ x lo hi. dite (ℕ_discrete x k)
             (λ e. let q = at_second v.given ((k, t) ∷ []) (k, t) zero refl in
             inr (id, w, q.0, t, set_here s.views id w (at_length s.views id v at), tt, q.1 ∙ ap (λ (z : ℕ). some (z, t)) (sym e), ap (get_elem? homes') e ∙ set_here s.homes k (some (Some t)) near))
-            (λ ne. stays s id v w homes' x at tt (λ h. ne (sym (held_same k x (sym held ∙ h)))) (λ i y q. at_first v.given ((k, t) ∷ []) y i q) (set_else s.homes k x (some (Some t)) ne) (r.done x lo hi)));
+            (λ ne. stays s id v w homes' x at tt (λ h. ne (sym (held_same k x (sym held ∙ h)))) (λ i y q. at_longer v.given ((k, t) ∷ []) i y q) (set_else s.homes k x (some (Some t)) ne) (r.done x lo hi)));
         once = (λ x. let h = hand x in let q = r.once x in let a : ℕ = has x w in let b : ℕ = has x v in let c : ℕ = total (has x) s.views in omega arith);
         unclaimed = (λ x le. hand x);
       } in (

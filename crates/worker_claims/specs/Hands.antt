@@ -3,9 +3,10 @@ use Rattle.std.specs.Prelude.{◌≡◌, ℕ, ◌<◌, ◌≤◌, ◌⊎◌, Lis
 use mathlib.Core.Option.{some}
 use lib.ListN.{get_elem?}
 use Rattle.worker_claims.specs.declared.knowledge.Doing.{Doing}
-use Rattle.worker_claims.specs.declared.knowledge.Doing.TheVariants.{Free, Held, Ended}
+use Rattle.worker_claims.specs.declared.knowledge.Doing.TheVariants.{Free, HasTask, Ended}
 use Rattle.worker_claims.specs.Views.{BoardView, HandView}
-use Rattle.worker_claims.specs.Rule.{total, one_if}
+use Rattle.worker_claims.specs.Rule.{one_if}
+use Rattle.shared_seats.specs.Seats.{total}
 
 -- It has no task.
 abbrev pub HoldsNone : Doing → Type 0
@@ -25,7 +26,7 @@ module _ {T : Type 0} where
   -- What a claim answers: no task where the number that it found is no task's, or where it has ended before; else the task of that number.
   abbrev pub IsClaim : List T → Doing → Doing → Option (ℕ × T) → Type 0
   IsClaim tasks old new None = (n : ℕ) × (new ≡ Ended n) × (length tasks ≤ n) × ((old ≡ Free) ⊎ (old ≡ Ended n))
-  IsClaim tasks old new (Some c) = (old ≡ Free) × (new ≡ Held c.0) × (get_elem? tasks c.0 ≡ some c.1)
+  IsClaim tasks old new (Some c) = (old ≡ Free) × (new ≡ HasTask c.0) × (get_elem? tasks c.0 ≡ some c.1)
 
   -- Each task may be worked.
   abbrev pub AllReady : (ℕ → T → Type 0) → List T → Type 0

@@ -4,14 +4,10 @@ use mathlib.Core.Option.{some}
 use mathlib.Core.Option as maybe
 use lib.ListN.{get_elem?}
 use Rattle.atomic_table.specs.Table.{State, Me, Step}
+use Rattle.shared_seats.specs.Seats.{total}
 use Rattle.worker_claims.specs.declared.knowledge.View.{View}
 use Rattle.worker_claims.specs.declared.knowledge.Doing.{Doing}
-use Rattle.worker_claims.specs.declared.knowledge.Doing.TheVariants.{Spent, Free, Held, Ended}
-
--- A sum over a list.
-abbrev pub total : {A : Type 0} → (A → ℕ) → List A → ℕ
-total f [] = 0
-total f (x ∷ xs) = f x + total f xs
+use Rattle.worker_claims.specs.declared.knowledge.Doing.TheVariants.{Spent, Free, HasTask, Ended}
 
 -- Not spent.
 abbrev pub Live : Doing → Type 0
@@ -24,7 +20,7 @@ one_if k n = cond (eqb k n) 1 0
 
 -- How often the number is in hand.
 abbrev pub in_hand : ℕ → Doing → ℕ
-in_hand k (Held n) = one_if k n
+in_hand k (HasTask n) = one_if k n
 in_hand k _ = 0
 
 -- How many of the hands may still come for a task.
@@ -38,7 +34,7 @@ module _ {T : Type 0} where
   abbrev pub Carries : List T → Doing → Bool → List (ℕ × Option T) → Type 0
   Carries tasks Spent ended slots = ⊥
   Carries tasks Free ended slots = (ended ≡ false) × (slots ≡ [])
-  Carries tasks (Held k) ended slots = (ended ≡ false) × (slots ≡ (k, None) ∷ [])
+  Carries tasks (HasTask k) ended slots = (ended ≡ false) × (slots ≡ (k, None) ∷ [])
   Carries tasks (Ended n) ended slots = (ended ≡ true) × (slots ≡ []) × (length tasks ≤ n)
 
   -- A view, by its parts.
@@ -85,7 +81,7 @@ module _ {T : Type 0} where
   -- A number in hand is a task's and was claimed; a hand has ended at a number that is no task's.
   abbrev pub InDoing : List T → ℕ → Doing → Type 0
   InDoing tasks word (Ended n) = (length tasks ≤ n) × (n < word)
-  InDoing tasks word (Held k) = (k < length tasks) × (k < word)
+  InDoing tasks word (HasTask k) = (k < length tasks) × (k < word)
   InDoing tasks word _ = Unit {0}
 
   -- One view, held against the tasks and the next number.
@@ -97,11 +93,11 @@ module _ {T : Type 0} where
   -- A number that was claimed is in hand, or was given.
   abbrev pub Claimed : List (View T) → List (maybe.Option (Option T)) → ℕ → Type 0
   Claimed views homes k =
-      ((j : ℕ) × (v : View T) × (get_elem? views j ≡ some v) × (v.doing ≡ Held k))
+      ((j : ℕ) × (v : View T) × (get_elem? views j ≡ some v) × (v.doing ≡ HasTask k))
       ⊎ ((j : ℕ) × (v : View T) × (i : ℕ) × (t : T) × (get_elem? views j ≡ some v) × Live v.doing × (get_elem? v.given i ≡ some (k, t)) × (get_elem? homes k ≡ some (some (Some t))))
 
   -- What holds between any two steps.
-  pub record Kept (tasks : List T) (hands : ℕ) (s : State (Option T) (View T)) : Type 0 where
+  pub record ClaimRule (tasks : List T) (hands : ℕ) (s : State (Option T) (View T)) : Type 0 where
     -- The number that is claimed next.
     pub word : ℕ
     pub words_are : s.words ≡ word ∷ []
@@ -126,9 +122,9 @@ module _ {T : Type 0} where
 
   -- What the steps tell: the seat before, the number found, the seat after.
   abbrev pub claimed : Step (Option T) → Me (Option T) (View T) → ℕ → Me (Option T) (View T) → Type 0
-  claimed st m r n = (r < length m.0.tasks → (x : T) × (get_elem? m.0.tasks r ≡ some x) × (n ≡ (at_work (Held r) m.0, (r, Some x) ∷ m.1)))
+  claimed st m r n = (r < length m.0.tasks → (x : T) × (get_elem? m.0.tasks r ≡ some x) × (n ≡ (at_work (HasTask r) m.0, (r, Some x) ∷ m.1)))
       × (length m.0.tasks ≤ r → n ≡ (at_work (Ended r) m.0, m.1))
       × IsAbove m.0.given r
 
   abbrev pub gave : Step (Option T) → Me (Option T) (View T) → ℕ → Me (Option T) (View T) → Type 0
-  gave st m r n = (k : ℕ) (t : T) → m.0.doing ≡ Held k → m.1 ≡ (k, Some t) ∷ [] → n ≡ (has_given k t m.0, [])
+  gave st m r n = (k : ℕ) (t : T) → m.0.doing ≡ HasTask k → m.1 ≡ (k, Some t) ∷ [] → n ≡ (has_given k t m.0, [])

@@ -1,6 +1,6 @@
-//! Claiming a task and giving it back.
+//! Claiming a task and giving it back, each one atomic step at the board: a number is claimed once, and its task goes home to its place.
 ghost use Rattle.std.specs.Prelude.{◌≡◌, ℕ, [], ◌∷◌, ◌++◌, Some, None, IfSome};
-ghost use Rattle.worker_claims.specs.declared.knowledge.Doing.TheVariants.{Free, Held};
+ghost use Rattle.worker_claims.specs.declared.knowledge.Doing.TheVariants.{Free, HasTask};
 ghost use Rattle.worker_claims.specs.Rule.{has_given, IsAbove};
 ghost use Rattle.worker_claims.specs.Hands.{IsHandOf, HoldsNone, IsClaim};
 
@@ -39,7 +39,7 @@ impl<T> Board<T> {
     /// Gives back the task that the hand holds, worked. It waits for nobody and takes no memory.
     pub fn give(&self, hand: &mut Hand<T>, number: u64, task: T)
         requires of { IsHandOf self.now hand.old }
-        requires holds { hand.old.doing ≡ Held number }
+        requires holds { hand.old.doing ≡ HasTask number }
         ensures of { IsHandOf self.now hand.new }
         ensures free { hand.new.doing ≡ Free }
         ensures given { hand.new.given ≡ hand.old.given ++ (number, task) ∷ [] }
@@ -50,7 +50,7 @@ impl<T> Board<T> {
     // The task into its slot, and the slot home.
     fn settle(&self, seat: &mut Seat<Option<T>, View<T>>, number: u64, task: T)
         requires of { seat.old.table_id ≡ self.now.id }
-        requires holds { (seat.old.me.0.doing ≡ Held number) × (seat.old.me.1 ≡ (number, None) ∷ []) }
+        requires holds { (seat.old.me.0.doing ≡ HasTask number) × (seat.old.me.1 ≡ (number, None) ∷ []) }
         ensures { (seat.new.table_id ≡ seat.old.table_id) × (seat.new.me ≡ (has_given number task seat.old.me.0, [])) }
     {
         self.put(seat, number, task);
@@ -75,8 +75,8 @@ impl<T> Board<T> {
     // The slot home, by a load of the word.
     fn bring_home(&self, seat: &mut Seat<Option<T>, View<T>>)
         requires of { seat.old.table_id ≡ self.now.id }
-        requires task { (k : ℕ) × (t : T) × (seat.old.me.0.doing ≡ Held k) × (seat.old.me.1 ≡ (k, Some t) ∷ []) }
-        ensures { (seat.new.table_id ≡ seat.old.table_id) × ((k : ℕ) (t : T) → seat.old.me.0.doing ≡ Held k → seat.old.me.1 ≡ (k, Some t) ∷ [] → seat.new.me ≡ (has_given k t seat.old.me.0, [])) }
+        requires task { (k : ℕ) × (t : T) × (seat.old.me.0.doing ≡ HasTask k) × (seat.old.me.1 ≡ (k, Some t) ∷ []) }
+        ensures { (seat.new.table_id ≡ seat.old.table_id) × ((k : ℕ) (t : T) → seat.old.me.0.doing ≡ HasTask k → seat.old.me.1 ≡ (k, Some t) ∷ [] → seat.new.me ≡ (has_given k t seat.old.me.0, [])) }
     {
         self.table.shared.load::<Give>(seat, 0);
     }

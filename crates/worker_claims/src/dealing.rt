@@ -1,4 +1,4 @@
-//! How a board is made and closed.
+//! How a board is made and closed: the tasks move into slots, one seat is divided into hands, and at the end all come back in order.
 ghost use Rattle.std.specs.Prelude.{◌≡◌, ℕ, ◌+◌, ◌<◌, ◌≤◌, List, [], ◌∷◌, ◌++◌, map, length, vec_len, vec_capacity, Some, None, IsSome, All, true, false, IfOk, IfErr, ◌-◌, ◌^◌, slice_index_or};
 ghost use Rattle.std.specs.Slots.{slots_items, slots_filled, slots_len, IsFull};
 ghost use mathlib.Core.Option.{some};

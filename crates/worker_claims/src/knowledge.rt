@@ -8,7 +8,7 @@ pub enum Doing {
     /// It may claim a task.
     Free,
     /// It has the task of this number.
-    Held(u64),
+    HasTask(u64),
     /// Its last claim found this number, and no task left.
     Ended(u64),
 }

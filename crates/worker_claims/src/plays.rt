@@ -1,4 +1,4 @@
-//! What each step tells. These types are for the proofs alone.
+//! What each step tells the hand that makes it, and what dividing and joining hands does. These types are for the proofs alone.
 ghost use Rattle.worker_claims.specs.Rule.{claimed, gave, without_one, the_one, with, spent};
 
 use crate::knowledge::View;

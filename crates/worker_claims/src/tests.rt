@@ -1,4 +1,4 @@
-//! Boards of a few numbers.
+//! Boards of a few numbers: each task is worked in its place, two at once, and each number is given once.
 ghost use Rattle.std.specs.Prelude.{◌≡◌, ◌+◌, ◌<◌, ◌^◌, ℕ};
 ghost use Rattle.worker_claims.specs.declared.knowledge.Doing.TheVariants.{Free};
 ghost use Rattle.worker_claims.specs.Hands.{IsHandOf};

@@ -1,4 +1,4 @@
-//! What a task is worked by.
+//! What a task is worked by: a worker says which tasks it may be given, and how it leaves each of them.
 ghost use Rattle.std.specs.Prelude.{ℕ};
 
 use std::sync::Wait;

@@ -1,4 +1,4 @@
-//! All tasks, worked by several threads.
+//! All tasks, worked by several threads: each hand claims, passes the gate, works and gives back until nothing is left.
 ghost use Rattle.std.specs.Prelude.{◌≡◌, ◌<◌, ◌≤◌, ◌^◌, [], length, vec_len, IfOk, IfErr, All};
 ghost use Rattle.worker_claims.specs.declared.knowledge.Doing.TheVariants.{Free};
 ghost use Rattle.worker_claims.specs.Hands.{IsHandOf, HasEnded, AllWorked, AllReady, IsWorked, gated};

@@ -5,7 +5,8 @@ use native.Mathlib.Decide.{ℕ_discrete}
 use lib.ListN.{get_elem?}
 use Rattle.std.proofs.lemmas.List.{map-append}
 use Rattle.std.specs.Slots.{slots_filled}
-use Rattle.worker_claims.proofs.Lists.{all_at, take_next, set_false}
+use Rattle.worker_claims.proofs.Lists.{take_next, set_false}
+use Rattle.shared_seats.proofs.Lists.{all_at}
 use Rattle.worker_claims.proofs.dealing.collect.Goals as goal
 
 pub unwrap-requires : goal.unwrap-requires

@@ -2,7 +2,8 @@ use Rattle.std.proofs.Common.{arith, sym, ap, ◌∙◌, subst, length}
 use mathlib.Core.Option.{some-injective}
 use lib.ListN.{get_elem?}
 use Rattle.worker_claims.specs.Hands.{IsHandOf, HasEnded, AllWorked, gated}
-use Rattle.worker_claims.proofs.Lists.{all_at, in_whole}
+use Rattle.worker_claims.proofs.Lists.{in_whole}
+use Rattle.shared_seats.proofs.Lists.{all_at}
 use Rattle.worker_claims.proofs.worked.work_all.Goals as goal
 
 pub returns-clause-worked : goal.returns-clause-worked

@@ -5,7 +5,7 @@ use Rattle.atomic_table.specs.Seated.{TableId}
 use Rattle.turn_lock.specs.declared.knowledge.Known.{Known}
 use Rattle.turn_lock.specs.Rule.{dealt, known, without_one, the_one}
 use Rattle.turn_lock.specs.Views.{PassView}
-use Rattle.turn_lock.proofs.Views.{at_end}
+use Rattle.shared_seats.proofs.Lists.{at_end}
 use Rattle.turn_lock.proofs.tokens.TurnLock.deal.Goals as goal
 
 pub loop-number-preserved : goal.loop-number-preserved

@@ -1,7 +1,8 @@
 use Rattle.std.proofs.Common.{arith, refl, sym, ap, ◌∙◌, subst, zero, [], ◌∷◌, ◌++◌, append_assoc, ⊎_elim}
 use lib.ListN.{get_elem?}
 use Rattle.worker_claims.specs.Hands.{IsHandOf, HasEnded}
-use Rattle.worker_claims.proofs.Lists.{front_all, last_all, at_append, at_first, at_second}
+use Rattle.shared_seats.proofs.Lists.{front_all, last_all, at_append, at_second}
+use Rattle.atomic_table.proofs.Lists.{at_longer}
 use Rattle.worker_claims.proofs.Steps.{times_first, times_next}
 use Rattle.worker_claims.proofs.tokens.Board.close.Goals as goal
 
@@ -32,7 +33,7 @@ pub hands-preserved : goal.hands-preserved
 hands-preserved g c =
     let i = c.hands.invariant in let p = c.in-Some-pop.hand in let e = c.in-Some-pop.ensures.items in let s = c.into_seat.ensures in let j = c.join.ensures in
     let q = at_second c.pop-in-hands.new.self.items (p ∷ []) p zero refl in
-    let place = ap (λ l. get_elem? l q.0) (i.rest.1 ∙ ap (λ l. l ++ i.rest.0) e) ∙ at_first (c.pop-in-hands.new.self.items ++ p ∷ []) i.rest.0 p q.0 q.1 in record {
+    let place = ap (λ l. get_elem? l q.0) (i.rest.1 ∙ ap (λ l. l ++ i.rest.0) e) ∙ at_longer (c.pop-in-hands.new.self.items ++ p ∷ []) i.rest.0 q.0 p q.1 in record {
       table = j.0 ∙ i.table;
       ended = subst HasEnded (sym (ap (λ m. m.0.doing) j.1)) i.ended;
       count = omega (arith, s.1, ap (λ m. m.0.parts) j.1, c.in-Some-pop.ensures.len, i.count);

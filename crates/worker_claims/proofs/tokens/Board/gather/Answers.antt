@@ -4,7 +4,7 @@ use mathlib.Core.Option.{some, some-injective}
 use lib.ListN.{get_elem?}
 use Rattle.atomic_table.proofs.Lists.{at_map}
 use Rattle.worker_claims.specs.Views.{BoardView}
-use Rattle.worker_claims.proofs.Lists.{from_all, at_length}
+use Rattle.shared_seats.proofs.Lists.{from_all, at_length}
 use Rattle.worker_claims.proofs.Steps.{times_one}
 use Rattle.worker_claims.proofs.Shares.{ends}
 use Rattle.worker_claims.proofs.tokens.Board.gather.Goals as goal
