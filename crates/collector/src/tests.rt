@@ -1,5 +1,5 @@
 //! A collector beside one caller: horizons, and sweeps that spare what is held.
-ghost use Rattle.std.specs.Prelude.{◌≡◌, ◌+◌, ◌*◌, ◌%◌, ◌<◌, ◌∷◌, [], vec_len, All};
+ghost use Rattle.std.specs.Prelude.{◌≡◌, ◌+◌, ◌<◌, replicate, vec_len, All};
 
 use super::*;
 use memo_core::Event;
@@ -8,36 +8,32 @@ use pin_table::{Caller, Memo, MemoFault};
 use std::alloc::{AllocError, Global};
 use std::test::Fail;
 
-// Twice a number, with a digest that spreads small numbers over the shards.
+// A truth value for itself: a sweep asks nothing of the recipe.
 #[derive(Drop)]
-struct Twice;
+struct Itself;
 
-impl Recipe for Twice {
-    type In = u64;
+impl Recipe for Itself {
+    type In = bool;
 
-    type Out = u64;
+    type Out = bool;
 
-    ghost fits = { λ input out. out ≡ 2 * input };
+    ghost fits = { λ input out. out ≡ input };
 
-    ghost digest_of = { λ input. 7 ∷ (input % 256) ∷ 0 ∷ 0 ∷ 0 ∷ 0 ∷ 0 ∷ 0 ∷ 0 ∷ 0 ∷ 0 ∷ 0 ∷ 0 ∷ 0 ∷ 0 ∷ 0 ∷ 0 ∷ 0 ∷ 0 ∷ 0 ∷ 0 ∷ 0 ∷ 0 ∷ 0 ∷ 0 ∷ 0 ∷ 0 ∷ 0 ∷ 0 ∷ 0 ∷ 0 ∷ 0 ∷ [] };
+    ghost digest_of = { λ _. replicate 32 0 };
 
-    fn digest(input: &u64) -> [u8; 32] {
-        let second = (*input % 256) as u8;
-        [
-            7, second, 0, 0, 0, 0, 0, 0, 0, 0, 0, 0, 0, 0, 0, 0, 0, 0, 0, 0, 0, 0, 0, 0, 0, 0, 0,
-            0, 0, 0, 0, 0,
-        ]
+    fn digest(_input: &bool) -> [u8; 32] {
+        [0; 32]
     }
 
-    fn same(a: &u64, b: &u64) -> bool {
+    fn same(a: &bool, b: &bool) -> bool {
         *a == *b
     }
 
-    fn share_in(_alloc: Global, input: &u64) -> Result<u64, AllocError> {
+    fn share_in(_alloc: Global, input: &bool) -> Result<bool, AllocError> {
         Ok(*input)
     }
 
-    fn share_out(_alloc: Global, out: &u64) -> Result<u64, AllocError> {
+    fn share_out(_alloc: Global, out: &bool) -> Result<bool, AllocError> {
         Ok(*out)
     }
 }
@@ -58,7 +54,7 @@ fn last_caller<R: Recipe>(memo: &Memo<R>, callers: &mut Vec<Caller<R>>) -> Calle
 
 #[test]
 fn each_sweep_is_at_the_horizon(rt: HostRuntime) -> Result<(), Fail> {
-    let (memo, mut callers) = Memo::<Twice>::new(rt.alloc(), 2, 1)?;
+    let (memo, mut callers) = Memo::<Itself>::new(rt.alloc(), 2, 1)?;
     let mut collector = Collector::new(last_caller(&memo, &mut callers), 3);
     // Runs, and their horizons with three runs kept.
     for (run, horizon) in [(0, 0), (2, 0), (3, 0), (4, 1), (u64::MAX, u64::MAX - 3)] {
@@ -81,7 +77,7 @@ fn each_sweep_is_at_the_horizon(rt: HostRuntime) -> Result<(), Fail> {
 
 #[test]
 fn a_worn_lock_refuses(rt: HostRuntime) -> Result<(), Fail> {
-    let (memo, mut callers) = Memo::<Twice>::starting_at(rt.alloc(), 1 << 62, 1, 1)?;
+    let (memo, mut callers) = Memo::<Itself>::starting_at(rt.alloc(), 1 << 62, 1, 1)?;
     let mut collector = Collector::new(last_caller(&memo, &mut callers), 0);
     let swept = collector.sweep_shard(&rt, &memo, 1, 0);
     assert!(rt; matches!(&swept, Err(MemoFault::Worn { ticket }) if *ticket == 1 << 62));

@@ -1,5 +1,5 @@
 //! One shard on one thread: each call's answer, its history replayed, and digests that do not tell inputs apart.
-ghost use Rattle.std.specs.Prelude.{◌≡◌, ◌*◌, ◌%◌, ◌∷◌, []};
+ghost use Rattle.std.specs.Prelude.{◌≡◌, ◌*◌, ◌%◌, replicate};
 
 use super::*;
 use memo_core::replay;
@@ -7,102 +7,39 @@ use std::alloc::{AllocError, Global};
 use std::test::Fail;
 use turn_lock::Turns;
 
-// Twice a number, with one digest for all numbers.
-#[derive(Drop)]
-struct OneDigest;
-
-impl Recipe for OneDigest {
-    type In = u64;
-
-    type Out = u64;
-
-    ghost fits = { λ input out. out ≡ 2 * input };
-
-    ghost digest_of = { λ _. 0 ∷ 0 ∷ 0 ∷ 0 ∷ 0 ∷ 0 ∷ 0 ∷ 0 ∷ 0 ∷ 0 ∷ 0 ∷ 0 ∷ 0 ∷ 0 ∷ 0 ∷ 0 ∷ 0 ∷ 0 ∷ 0 ∷ 0 ∷ 0 ∷ 0 ∷ 0 ∷ 0 ∷ 0 ∷ 0 ∷ 0 ∷ 0 ∷ 0 ∷ 0 ∷ 0 ∷ 0 ∷ [] };
-
-    fn digest(_input: &u64) -> [u8; 32] {
-        [0; 32]
-    }
-
-    fn same(a: &u64, b: &u64) -> bool {
-        *a == *b
-    }
-
-    fn share_in(_alloc: Global, input: &u64) -> Result<u64, AllocError> {
-        Ok(*input)
-    }
-
-    fn share_out(_alloc: Global, out: &u64) -> Result<u64, AllocError> {
-        Ok(*out)
-    }
-}
-
-// Twice a number, with a digest that tells small numbers apart.
+// Twice a number, with a digest that tells numbers below 16 apart, and not 1 from 17.
 #[derive(Drop)]
 struct Twice;
 
 impl Recipe for Twice {
-    type In = u64;
+    type In = u8;
 
-    type Out = u64;
+    type Out = u8;
 
     ghost fits = { λ input out. out ≡ 2 * input };
 
-    ghost digest_of = { λ input. (input % 256) ∷ 0 ∷ 0 ∷ 0 ∷ 0 ∷ 0 ∷ 0 ∷ 0 ∷ 0 ∷ 0 ∷ 0 ∷ 0 ∷ 0 ∷ 0 ∷ 0 ∷ 0 ∷ 0 ∷ 0 ∷ 0 ∷ 0 ∷ 0 ∷ 0 ∷ 0 ∷ 0 ∷ 0 ∷ 0 ∷ 0 ∷ 0 ∷ 0 ∷ 0 ∷ 0 ∷ 0 ∷ [] };
+    ghost digest_of = { λ input. replicate 32 (input % 16) };
 
-    fn digest(input: &u64) -> [u8; 32] {
-        [
-            (*input % 256) as u8,
-            0,
-            0,
-            0,
-            0,
-            0,
-            0,
-            0,
-            0,
-            0,
-            0,
-            0,
-            0,
-            0,
-            0,
-            0,
-            0,
-            0,
-            0,
-            0,
-            0,
-            0,
-            0,
-            0,
-            0,
-            0,
-            0,
-            0,
-            0,
-            0,
-            0,
-            0,
-        ]
+    fn digest(input: &u8) -> [u8; 32] {
+        [*input % 16; 32]
     }
 
-    fn same(a: &u64, b: &u64) -> bool {
+    fn same(a: &u8, b: &u8) -> bool {
         *a == *b
     }
 
-    fn share_in(_alloc: Global, input: &u64) -> Result<u64, AllocError> {
+    fn share_in(_alloc: Global, input: &u8) -> Result<u8, AllocError> {
         Ok(*input)
     }
 
-    fn share_out(_alloc: Global, out: &u64) -> Result<u64, AllocError> {
+    fn share_out(_alloc: Global, out: &u8) -> Result<u8, AllocError> {
         Ok(*out)
     }
 }
 
 // The id of the entry that is stored for an input, twice which is handed in.
-fn stored_id(shard: &mut Shard<Twice>, caller: u64, run: u64, input: u64) -> Option<u64> {
-    if shard.next() == u64::MAX || input > 1000 {
+fn stored_id(shard: &mut Shard<Twice>, caller: u64, run: u64, input: u8) -> Option<u64> {
+    if shard.next() == u64::MAX || input > 100 {
         return None;
     }
     let answer = shard.keep(caller, run, input, 2 * input);
@@ -113,8 +50,8 @@ fn stored_id(shard: &mut Shard<Twice>, caller: u64, run: u64, input: u64) -> Opt
 }
 
 // The id of the entry that a keep finds.
-fn found_id(shard: &mut Shard<Twice>, caller: u64, run: u64, input: u64) -> Option<u64> {
-    if shard.next() == u64::MAX || input > 1000 {
+fn found_id(shard: &mut Shard<Twice>, caller: u64, run: u64, input: u8) -> Option<u64> {
+    if shard.next() == u64::MAX || input > 100 {
         return None;
     }
     let answer = shard.keep(caller, run, input, 2 * input);
@@ -129,7 +66,7 @@ fn hit_id(
     shard: &mut Shard<Twice>,
     caller: u64,
     run: u64,
-    input: u64,
+    input: u8,
 ) -> Result<Option<u64>, AllocError> {
     let answer = shard.look(caller, run, input)?;
     match &answer {
@@ -141,7 +78,7 @@ fn hit_id(
     }
 }
 
-fn is_absent(shard: &mut Shard<Twice>, run: u64, input: u64) -> Result<bool, AllocError> {
+fn is_absent(shard: &mut Shard<Twice>, run: u64, input: u8) -> Result<bool, AllocError> {
     let answer = shard.look(0, run, input)?;
     Ok(matches!(&answer, ShardLook::Absent))
 }
@@ -157,14 +94,13 @@ fn gives_up(shard: &mut Shard<Twice>, caller: u64, id: u64) -> bool {
 
 #[test]
 fn equal_digests_of_unequal_inputs_clash(rt: HostRuntime) -> Result<(), Fail> {
-    let mut shard = Shard::<OneDigest>::new(rt.alloc());
-    let stored = shard.keep(0, 1, 1, 2);
-    assert!(rt; matches!(&stored, Ok(ShardKeep::Stored(entry)) if entry.id() == 0));
-    let looked = shard.look(0, 1, 2)?;
+    let mut shard = Shard::<Twice>::new(rt.alloc());
+    assert!(rt; stored_id(&mut shard, 0, 1, 1) == Some(0));
+    let looked = shard.look(0, 1, 17)?;
     assert!(rt; matches!(&looked, ShardLook::Clash(entry) if *entry.input() == 1));
     assert!(rt; shard.next() == 1);
-    let kept = shard.keep(0, 1, 2, 4);
-    assert!(rt; matches!(&kept, Ok(ShardKeep::Clash(_, 2, 4))));
+    let kept = shard.keep(0, 1, 17, 34);
+    assert!(rt; matches!(&kept, Ok(ShardKeep::Clash(_, 17, 34))));
     Ok(())
 }
 

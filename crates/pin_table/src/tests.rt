@@ -1,5 +1,5 @@
 //! Memos that one caller or several threads call: clashes, worn locks, pins that outlive a sweep, and one history a shard.
-ghost use Rattle.std.specs.Prelude.{◌≡◌, ◌+◌, ◌*◌, ◌%◌, ◌∷◌, [], ◌<◌, vec_len, All, IfOk};
+ghost use Rattle.std.specs.Prelude.{◌≡◌, ◌+◌, ◌*◌, ◌%◌, ◌<◌, vec_len, All, IfOk};
 ghost use Rattle.pin_table.specs.Covers.{Covered, names_of};
 ghost use Rattle.pin_table.specs.Spread.{spread};
 
@@ -11,37 +11,7 @@ use std::sync::Wait;
 use std::test::Fail;
 use std::thread;
 
-// Twice a number, with one digest for all numbers.
-#[derive(Drop)]
-struct OneDigest;
-
-impl Recipe for OneDigest {
-    type In = u64;
-
-    type Out = u64;
-
-    ghost fits = { λ input out. out ≡ 2 * input };
-
-    ghost digest_of = { λ _. 0 ∷ 0 ∷ 0 ∷ 0 ∷ 0 ∷ 0 ∷ 0 ∷ 0 ∷ 0 ∷ 0 ∷ 0 ∷ 0 ∷ 0 ∷ 0 ∷ 0 ∷ 0 ∷ 0 ∷ 0 ∷ 0 ∷ 0 ∷ 0 ∷ 0 ∷ 0 ∷ 0 ∷ 0 ∷ 0 ∷ 0 ∷ 0 ∷ 0 ∷ 0 ∷ 0 ∷ 0 ∷ [] };
-
-    fn digest(_input: &u64) -> [u8; 32] {
-        [0; 32]
-    }
-
-    fn same(a: &u64, b: &u64) -> bool {
-        *a == *b
-    }
-
-    fn share_in(_alloc: Global, input: &u64) -> Result<u64, AllocError> {
-        Ok(*input)
-    }
-
-    fn share_out(_alloc: Global, out: &u64) -> Result<u64, AllocError> {
-        Ok(*out)
-    }
-}
-
-// Twice a number, with a digest that tells small numbers apart and spreads them over the shards.
+// Twice a number, with a digest that spreads small numbers over the shards, and does not tell 1 from 257.
 #[derive(Drop)]
 struct Twice;
 
@@ -57,11 +27,7 @@ impl Recipe for Twice {
     ghost digest_of = { spread };
 
     fn digest(input: &u64) -> [u8; 32] {
-        let second = (*input % 256) as u8;
-        [
-            7, second, 0, 0, 0, 0, 0, 0, 0, 0, 0, 0, 0, 0, 0, 0, 0, 0, 0, 0, 0, 0, 0, 0, 0, 0, 0,
-            0, 0, 0, 0, 0,
-        ]
+        [(*input % 256) as u8; 32]
     }
 
     fn same(a: &u64, b: &u64) -> bool {
@@ -307,20 +273,20 @@ fn made_by(history: &[Event], number: u64) -> u64 {
 
 #[test]
 fn equal_digests_of_unequal_inputs_clash(rt: HostRuntime) -> Result<(), Fail> {
-    let (memo, callers) = Memo::<OneDigest>::new(rt.alloc(), 1, 1)?;
+    let (memo, callers) = Memo::<Twice>::new(rt.alloc(), 1, 1)?;
     let mut desks = desks_for(rt.alloc(), &memo, callers)?;
     let mut desk = last_desk(&memo, &mut desks);
     assert!(rt; desk.keep(&rt, &memo, 1, 1, 2) == Said::Stored(0));
-    let looked = memo.look(&rt, &mut desk.caller, 1, &2);
+    let looked = memo.look(&rt, &mut desk.caller, 1, &257);
     assert!(rt; matches!(&looked, Ok(Looked::Clash(entry)) if *entry.input() == 1));
-    let kept = memo.keep(&rt, &mut desk.caller, 1, 2, 4);
-    assert!(rt; matches!(&kept, Ok(Kept::Clash(_, 2, 4))));
+    let kept = memo.keep(&rt, &mut desk.caller, 1, 257, 514);
+    assert!(rt; matches!(&kept, Ok(Kept::Clash(_, 257, 514))));
     Ok(())
 }
 
 #[test]
 fn a_worn_lock_refuses(rt: HostRuntime) -> Result<(), Fail> {
-    let (memo, callers) = Memo::<OneDigest>::starting_at(rt.alloc(), (1 << 62) - 1, 1, 1)?;
+    let (memo, callers) = Memo::<Twice>::starting_at(rt.alloc(), (1 << 62) - 1, 1, 1)?;
     let mut desks = desks_for(rt.alloc(), &memo, callers)?;
     let mut desk = last_desk(&memo, &mut desks);
     assert!(rt; desk.keep(&rt, &memo, 1, 1, 2) == Said::Stored(0));
@@ -358,6 +324,23 @@ fn a_pinned_entry_outlives_a_sweep(rt: HostRuntime) -> Result<(), Fail> {
     let end = replay(rt.alloc(), history)?;
     assert!(rt; matches!(&end, Some(state) if state.entries.is_empty() && state.next == 1));
     assert!(rt; replay(rt.alloc(), &history[2..3])?.is_none());
+    Ok(())
+}
+
+#[test]
+fn pins_are_given_up_for_good(rt: HostRuntime) -> Result<(), Fail> {
+    let (memo, callers) = Memo::<Twice>::new(rt.alloc(), 1, 1)?;
+    let mut desks = desks_for(rt.alloc(), &memo, callers)?;
+    let mut desk = last_desk(&memo, &mut desks);
+    assert!(rt; desk.keep(&rt, &memo, 1, 1, 2) == Said::Stored(0));
+    assert!(rt; desk.look(&rt, &memo, 1, &1) == Said::Hit(0));
+    let Desk {
+        mut caller,
+        pins,
+        turns: _,
+    } = desk;
+    memo.give_up_all(&rt, &mut caller, pins);
+    assert!(rt; matches!(memo.sweep(&rt, &mut caller, 0, 9), Ok(1)));
     Ok(())
 }
 
