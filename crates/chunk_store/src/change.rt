@@ -1,4 +1,4 @@
-//! What a caller learns of an edit: which chunks are new, so that nothing else is looked at again, or why there are none.
+//! What an edit changes, and why it is refused.
 ghost use Rattle.std.specs.Prelude.{◌≡◌, ◌<◌, ◌+◌, ◌^◌};
 ghost use Rattle.chunk_store.specs.Files.{raised};
 
@@ -34,7 +34,7 @@ pub enum EditFault {
     /// The text would have more than 268,435,456 bytes.
     #[error("more text than a window may have")]
     WindowLarge,
-    /// Out of memory.
+    /// Want of memory.
     #[error("out of memory")]
     Mem,
 }

@@ -1,4 +1,4 @@
-//! A chunk is a run of records that is shared, so that an edit moves those that it does not cut again without a copy.
+//! Chunks with their counts.
 ghost use Rattle.std.specs.Prelude.{◌≡◌, ◌≤◌, length, IfOk};
 ghost use Rattle.definitions.specs.Records.{text_of};
 

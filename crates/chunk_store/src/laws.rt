@@ -1,4 +1,4 @@
-//! What holds of the definitions. Each function does nothing: its contract is the law, which a caller has by calling it.
+//! Laws of the definitions.
 ghost use Rattle.std.specs.Prelude.{◌≡◌, ◌≢◌, ℕ, List};
 ghost use Rattle.chunk_store.specs.Files.{File, file_at, with_file};
 

@@ -25,6 +25,11 @@ impl Ran {
     }
 }
 
+/// The program's own jobs, with its own meter.
+pub fn basic_jobs() -> BasicJobs<CountMeter> {
+    BasicJobs::<CountMeter>::new()
+}
+
 /// The words `--job count --tree coalescing`.
 pub fn count_words(alloc: Global) -> Result<Vec<String>, AllocError> {
     words(alloc, "--job count --tree coalescing")
@@ -52,12 +57,11 @@ pub fn run<Q: Threads + Wait + Sync>(
     let mut source = SureSource::new(Vec::from_slice(alloc, script)?);
     let mut out = SureSink::new(alloc);
     let mut err = SureSink::new(alloc);
-    let jobs = BasicJobs;
     let status = run_program(
         alloc,
         rt,
         words,
-        &jobs,
+        &basic_jobs(),
         &mut source,
         &mut out,
         &mut err,
@@ -164,9 +168,9 @@ pub fn run_plainly(alloc: Global, words: &[String], script: &[u8]) -> Result<Ran
     let kind = plan.tree.kind();
     let places = plan.settings.places;
     match plan.job {
-        JobName::Count => serve_plainly(alloc, BasicJobs.count(), kind, places, script),
-        JobName::Index => serve_plainly(alloc, BasicJobs.index(), kind, places, script),
-        JobName::TopK => serve_plainly(alloc, BasicJobs.topk(plan.k), kind, places, script),
-        JobName::Latest => serve_plainly(alloc, BasicJobs.latest(), kind, places, script),
+        JobName::Count => serve_plainly(alloc, basic_jobs().count(), kind, places, script),
+        JobName::Index => serve_plainly(alloc, basic_jobs().index(), kind, places, script),
+        JobName::TopK => serve_plainly(alloc, basic_jobs().topk(plan.k), kind, places, script),
+        JobName::Latest => serve_plainly(alloc, basic_jobs().latest(), kind, places, script),
     }
 }

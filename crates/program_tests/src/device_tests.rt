@@ -1,8 +1,8 @@
 //! Devices that fail, and words that are refused before any device is touched.
 
-use crate::calling::{Ran, count_words, words};
+use crate::calling::{Ran, basic_jobs, count_words, words};
 use slider_io::{MemSink, MemSource, NoGate, Source, SureSink, SureSource};
-use slider_program::{BasicJobs, new_meters, run_program};
+use slider_program::{new_meters, run_program};
 use std::alloc::{AllocError, Global};
 use std::sync::Wait;
 use std::thread::Threads;
@@ -26,7 +26,7 @@ fn refuses_the_pairing<Q: Threads + Wait + Sync>(
         alloc,
         rt,
         words.as_slice(),
-        &BasicJobs,
+        &basic_jobs(),
         &mut source,
         &mut out,
         &mut err,
@@ -71,12 +71,11 @@ fn run_failing<Q: Threads + Wait + Sync>(
     );
     let mut out = MemSink::new(alloc, 1, Vec::from_slice(alloc, &[out_fails])?);
     let mut err = MemSink::new(alloc, 1, Vec::from_slice(alloc, &[err_fails])?);
-    let jobs = BasicJobs;
     let status = run_program(
         alloc,
         rt,
         words.as_slice(),
-        &jobs,
+        &basic_jobs(),
         &mut source,
         &mut out,
         &mut err,

@@ -2,12 +2,12 @@
 ghost use Rattle.std.specs.Prelude.{◌≤◌};
 ghost use Rattle.definitions.specs.Limits.{most_places};
 
-use crate::calling::serve_plainly;
+use crate::calling::{basic_jobs, serve_plainly};
 use job_laws::{CountMeter, Job, JobSet};
 use record_text::Kind;
 use run_settings::Settings;
 use slider_io::{SureSink, SureSource};
-use slider_program::{BasicJobs, line_of_fault, new_meters};
+use slider_program::{line_of_fault, new_meters};
 use slider_session::{Halt, serve};
 use std::alloc::{AllocError, Global};
 
@@ -91,8 +91,8 @@ fn script_from(alloc: Global, seed: u64, from: u64, to: u64) -> Result<Vec<u8>, 
 
 /// Whether a script is served as by the plain program.
 fn serves_alike(alloc: Global, kind: Kind, script: &[u8]) -> Result<bool, AllocError> {
-    let real = served_by_session(alloc, BasicJobs.count(), kind, 3, script)?;
-    let plain = serve_plainly(alloc, BasicJobs.count(), kind, 3, script)?;
+    let real = served_by_session(alloc, basic_jobs().count(), kind, 3, script)?;
+    let plain = serve_plainly(alloc, basic_jobs().count(), kind, 3, script)?;
     Ok(real.out == plain.out && real.fault.as_bytes() == plain.err.as_slice())
 }
 
@@ -115,15 +115,15 @@ fn made_scripts_are_served_alike(rt: HostRuntime) -> Result<(), AllocError> {
 fn each_kind_answers_its_window(rt: HostRuntime) -> Result<(), AllocError> {
     let alloc = rt.alloc();
     let script = b"bucket 1\na\nbucket 1\nb\nbucket 1\nc\nrun\n";
-    let circle = served_by_session(alloc, BasicJobs.count(), Kind::Circle, 2, script)?;
+    let circle = served_by_session(alloc, basic_jobs().count(), Kind::Circle, 2, script)?;
     assert!(rt; circle.out.as_slice() == b"# run 1 keys 2\nb\t1\nc\t1\n".as_slice());
-    let growing = served_by_session(alloc, BasicJobs.count(), Kind::Growing, 2, script)?;
+    let growing = served_by_session(alloc, basic_jobs().count(), Kind::Growing, 2, script)?;
     assert!(rt; growing.out.as_slice() == b"# run 1 keys 3\na\t1\nb\t1\nc\t1\n".as_slice());
     let script = b"bucket 1\na\nbucket 1\nb\ndrop 1\nrun\n";
-    let buckets = served_by_session(alloc, BasicJobs.count(), Kind::Buckets, 2, script)?;
+    let buckets = served_by_session(alloc, basic_jobs().count(), Kind::Buckets, 2, script)?;
     assert!(rt; buckets.out.as_slice() == b"# run 1 keys 1\nb\t1\n".as_slice());
     let script = b"load 3\na\nb\nc\nedit 1 1 2\nx\ny\nrun\n";
-    let document = served_by_session(alloc, BasicJobs.count(), Kind::Document, 2, script)?;
+    let document = served_by_session(alloc, basic_jobs().count(), Kind::Document, 2, script)?;
     assert!(rt; document.out.as_slice() == b"# run 1 keys 4\na\t1\nc\t1\nx\t1\ny\t1\n".as_slice());
     Ok(())
 }
@@ -132,7 +132,7 @@ fn each_kind_answers_its_window(rt: HostRuntime) -> Result<(), AllocError> {
 fn files_are_answered_in_name_order(rt: HostRuntime) -> Result<(), AllocError> {
     let alloc = rt.alloc();
     let script = b"file b\nload 1\nk\t1\nfile a\nload 1\nk\t2\nrun\nremove b\nrun\n";
-    let files = served_by_session(alloc, BasicJobs.latest(), Kind::Document, 2, script)?;
+    let files = served_by_session(alloc, basic_jobs().latest(), Kind::Document, 2, script)?;
     assert!(rt; files.out.as_slice() == b"# run 1 keys 1\nk\t1\n# run 2 keys 1\nk\t2\n".as_slice());
     assert!(rt; files.fault.is_empty());
     Ok(())
@@ -143,18 +143,30 @@ fn each_kind_refuses_at_its_line(rt: HostRuntime) -> Result<(), AllocError> {
     let alloc = rt.alloc();
     let script =
         b"bucket 1\nk\t1\nbucket 1\nk\t2\nlate 0 1\nk\t3\nrun\ndrop 0\nlate 1 1\nk\t4\nrun\nlate 2 0\n";
-    let late = served_by_session(alloc, BasicJobs.latest(), Kind::Buckets, 2, script)?;
+    let late = served_by_session(alloc, basic_jobs().latest(), Kind::Buckets, 2, script)?;
     assert!(rt; late.out.as_slice() == b"# run 1 keys 1\nk\t2\n# run 2 keys 1\nk\t4\n".as_slice());
     assert!(rt; late.fault.as_str() == "fault 12 many\n");
     let script = b"run\nbucket 2\n1\ta\nx\nrun\n";
-    let record = served_by_session(alloc, BasicJobs.index(), Kind::Circle, 2, script)?;
+    let record = served_by_session(alloc, basic_jobs().index(), Kind::Circle, 2, script)?;
     assert!(rt; record.out.as_slice() == b"# run 1 keys 0\n".as_slice());
     assert!(rt; record.fault.as_str() == "fault 4 record\n");
-    let edit = served_by_session(alloc, BasicJobs.count(), Kind::Document, 2, b"edit 0 1 0\n")?;
+    let edit = served_by_session(
+        alloc,
+        basic_jobs().count(),
+        Kind::Document,
+        2,
+        b"edit 0 1 0\n",
+    )?;
     assert!(rt; edit.fault.as_str() == "fault 1 many\n");
-    let drop_here = served_by_session(alloc, BasicJobs.count(), Kind::Growing, 2, b"drop 0\n")?;
+    let drop_here = served_by_session(alloc, basic_jobs().count(), Kind::Growing, 2, b"drop 0\n")?;
     assert!(rt; drop_here.fault.as_str() == "fault 1 nothere\n");
-    let bucket = served_by_session(alloc, BasicJobs.count(), Kind::Document, 2, b"bucket 0\n")?;
+    let bucket = served_by_session(
+        alloc,
+        basic_jobs().count(),
+        Kind::Document,
+        2,
+        b"bucket 0\n",
+    )?;
     assert!(rt; bucket.fault.as_str() == "fault 1 nothere\n");
     Ok(())
 }

@@ -1,6 +1,7 @@
 //! Sheets of the program's own jobs.
 ghost use Rattle.std.specs.Prelude.{◌≡◌, All, IsTrue};
 
+use crate::calling::basic_jobs;
 use job_laws::{CountMeter, Counts, Job, JobSet, Meter};
 use record_text::Records;
 use sheets::{Sheet, map_sheets, merge_sheets, same_sheet};
@@ -56,7 +57,7 @@ fn merged_lines<J: Job>(
 #[test]
 fn tables_of_two_records_merge(rt: HostRuntime) -> Result<(), AllocError> {
     let alloc = rt.alloc();
-    let job = BasicJobs.count();
+    let job = basic_jobs().count();
     let mut meter = CountMeter::new();
     let mut records = Records::new(alloc);
     records.push(b"a")?;
@@ -77,7 +78,7 @@ fn tables_of_two_records_merge(rt: HostRuntime) -> Result<(), AllocError> {
                 joins: before.joins.saturating_add(1)
             }
     );
-    let empty: Sheet<<BasicJobs as JobSet>::Count> = Sheet::empty(alloc, 0)?;
+    let empty: Sheet<<BasicJobs<CountMeter> as JobSet>::Count> = Sheet::empty(alloc, 0)?;
     assert!(rt; empty.entries().len() == 0);
     assert!(rt; same_sheet(&empty, &empty.share()?));
     Ok(())

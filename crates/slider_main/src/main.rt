@@ -3,6 +3,7 @@
 //! carries the promises.
 #![tactic(auto)]
 
+use job_laws::CountMeter;
 use slider_io::{NoGate, ReaderSource, WriterSink, put_all};
 use slider_program::{BasicJobs, new_meters, run_program};
 use std::env;
@@ -35,7 +36,7 @@ fn main(rt: HostRuntime) -> ExitCode {
         alloc,
         &rt,
         words.as_slice(),
-        &BasicJobs,
+        &BasicJobs::<CountMeter>::new(),
         &mut source,
         &mut out,
         &mut err,

@@ -8,4 +8,3 @@ pub mod JoinLaws
 pub mod SlideLaws
 pub mod SinceLaws
 pub mod SinceSteps
-pub mod BalanceLaws

@@ -1,4 +1,4 @@
-//! The refusals of a command, in the order in which a window tests them.
+//! Why a window refuses a command.
 use thiserror::Error;
 
 /// Why a window refuses a command, in the order in which the causes are tested.

@@ -1,4 +1,4 @@
-//! Keeps the splice of a document as changes come, in numbers alone.
+//! How the leaves of a document changed since its last run.
 ghost use Rattle.std.specs.Prelude.{◌≡◌, ◌≤◌, ◌+◌};
 ghost use Rattle.window_manager.specs.Splices.{FitsSplice, splice_after};
 
