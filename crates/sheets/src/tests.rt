@@ -1,9 +1,11 @@
 //! Sheets of a small job whose joining is not commutative, through the bound.
-ghost use Rattle.std.specs.Prelude.{◌≡◌, ◌<◌, ◌++◌, ◌∷◌, [], true, ◌&&◌, nat_le, take, length, refl, IsTrue, All};
+ghost use Rattle.std.specs.Prelude.{◌≡◌, ◌<◌, ◌++◌, ◌∷◌, [], true, ◌&&◌, nat_le, take, length, refl, IsTrue};
 ghost use Rattle.job_laws.specs.Encoding.{be64};
+ghost use Rattle.job_laws.specs.Meanings.{AllAccepted, meaning_of};
 
+use crate::digest::digest_of;
 use crate::{Sheet, answer_of, map_sheets, merge_sheets, same_sheet};
-use job_laws::{CountMeter, Counts, Emit, Job, Key, Meter, be64_bytes};
+use job_laws::{CountMeter, Emit, Job, Key, Meter, be64_bytes};
 use record_text::{Records, is_record};
 use std::alloc::{AllocError, Global};
 use std::marker::PhantomData;
@@ -80,7 +82,7 @@ impl<M: Meter> Job for LastLength<M> {
 }
 
 fn all_accepted<J: Job>(job: &J, records: &Records) -> bool
-    ensures { IsTrue result → All (λ r. IsTrue (J.accepts (J.setting job.now) r)) records.now }
+    ensures { IsTrue result → AllAccepted (meaning_of J.Job job.now) records.now }
 {
     for i in 0..records.len() {
         if !job.accepts(records.get(i)) {
@@ -90,19 +92,25 @@ fn all_accepted<J: Job>(job: &J, records: &Records) -> bool
     true
 }
 
-// The sheet of the records, which end with LF each; an empty one where the job does not accept them all.
-fn sheet_of<J: Job>(
-    alloc: Global,
-    job: &J,
-    text: &[u8],
-    m: &mut J::Meter,
-) -> Result<Sheet<J>, AllocError> {
+// The records of a text, which are divided by LF; the first nine that are records.
+fn records_of(alloc: Global, text: &[u8]) -> Result<Records, AllocError> {
     let mut records = Records::new(alloc);
     for line in text.split(|b| *b == b'\n') {
         if is_record(line) && records.len() < 9 {
             records.push(line)?;
         }
     }
+    Ok(records)
+}
+
+// The sheet of the records in one part; an empty one where the job does not accept them all.
+fn sheet_of<J: Job>(
+    alloc: Global,
+    job: &J,
+    text: &[u8],
+    m: &mut J::Meter,
+) -> Result<Sheet<J>, AllocError> {
+    let records = records_of(alloc, text)?;
     if all_accepted(job, &records) {
         let mut sheets = map_sheets(alloc, job, &records, 1, m)?;
         if let Some(sheet) = sheets.pop() {
@@ -137,63 +145,90 @@ fn shown<J: Job<Val = u64>>(alloc: Global, sheet: &Sheet<J>) -> Result<String, A
     Ok(text)
 }
 
+type Last = LastLength<CountMeter>;
+
+fn last_length() -> Last {
+    LastLength { meter: PhantomData }
+}
+
 #[test]
-fn tables_of_two_lists_of_records_merge(rt: HostRuntime) -> Result<(), Fail> {
+fn a_table_joins_the_values_of_a_key_in_order(rt: HostRuntime) -> Result<(), Fail> {
     let alloc = rt.alloc();
-    let job = LastLength { meter: PhantomData };
     let mut m = CountMeter::new();
-    let left = sheet_of(alloc, &job, b"b22\na\nb\na333", &mut m)?;
-    assert_eq!(rt; shown(alloc, &left)?.as_str(), "[97]=4 [98]=1 ");
-    assert_eq!(rt;
-        m.counts(),
-        Counts {
-            maps: 4,
-            merges: 0,
-            joins: 2
-        }
-    );
-    let right = sheet_of(alloc, &job, b"c\nb4444", &mut m)?;
-    let both = merged(alloc, &job, &left, &right, &mut m)?;
+    let sheet = sheet_of(alloc, &last_length(), b"b22\na\nb\na333", &mut m)?;
+    assert_eq!(rt; shown(alloc, &sheet)?.as_str(), "[97]=4 [98]=1 ");
+    let counts = m.counts();
+    assert_eq!(rt; (counts.maps, counts.merges, counts.joins), (4, 0, 2));
+    Ok(())
+}
+
+// Sheets of two lists of records, which have one key in common.
+fn two_sheets(alloc: Global, m: &mut CountMeter) -> Result<(Sheet<Last>, Sheet<Last>), AllocError> {
+    let left = sheet_of(alloc, &last_length(), b"a333\nb", m)?;
+    let right = sheet_of(alloc, &last_length(), b"c\nb4444", m)?;
+    Ok((left, right))
+}
+
+#[test]
+fn a_merge_joins_common_keys_with_the_left_first(rt: HostRuntime) -> Result<(), Fail> {
+    let alloc = rt.alloc();
+    let mut m = CountMeter::new();
+    let (left, right) = two_sheets(alloc, &mut m)?;
+    let both = merged(alloc, &last_length(), &left, &right, &mut m)?;
     assert_eq!(rt; shown(alloc, &both)?.as_str(), "[97]=4 [98]=5 [99]=1 ");
-    assert_eq!(rt;
-        m.counts(),
-        Counts {
-            maps: 6,
-            merges: 1,
-            joins: 3
-        }
-    );
-    let other = merged(alloc, &job, &right, &left, &mut m)?;
+    let counts = m.counts();
+    assert_eq!(rt; (counts.maps, counts.merges, counts.joins), (4, 1, 1));
+    Ok(())
+}
+
+#[test]
+fn a_merge_the_other_way_is_another_sheet(rt: HostRuntime) -> Result<(), Fail> {
+    let alloc = rt.alloc();
+    let mut m = CountMeter::new();
+    let (left, right) = two_sheets(alloc, &mut m)?;
+    let both = merged(alloc, &last_length(), &left, &right, &mut m)?;
+    let other = merged(alloc, &last_length(), &right, &left, &mut m)?;
     assert_eq!(rt; shown(alloc, &other)?.as_str(), "[97]=4 [98]=1 [99]=1 ");
     assert!(rt; !same_sheet(&both, &other));
     Ok(())
 }
 
 #[test]
-fn an_empty_sheet_changes_nothing(rt: HostRuntime) -> Result<(), Fail> {
+fn an_empty_sheet_has_no_entries(rt: HostRuntime) -> Result<(), Fail> {
     let alloc = rt.alloc();
-    let job = LastLength { meter: PhantomData };
-    let mut m = CountMeter::new();
-    let empty = Sheet::empty(alloc, 3)?;
+    let empty = Sheet::<Last>::empty(alloc, 3)?;
     assert_eq!(rt; empty.entries().len(), 0);
     assert_eq!(rt; empty.setting(), 3);
     assert!(rt; same_sheet(&empty, &empty.share()?));
     assert!(rt; !same_sheet(&empty, &Sheet::empty(alloc, 4)?));
-    let some = sheet_of(alloc, &job, b"z\ny", &mut m)?;
-    assert!(rt; !same_sheet(&empty, &some));
-    assert!(rt; same_sheet(&some, &merged(alloc, &job, &some, &empty, &mut m)?));
-    assert!(rt; same_sheet(&some, &merged(alloc, &job, &empty, &some, &mut m)?));
-    assert!(rt; same_sheet(&empty, &sheet_of(alloc, &job, b"", &mut m)?));
     Ok(())
 }
 
 #[test]
-fn a_sheet_has_the_digest_of_its_table(rt: HostRuntime) -> Result<(), Fail> {
+fn a_merge_with_an_empty_sheet_changes_nothing(rt: HostRuntime) -> Result<(), Fail> {
     let alloc = rt.alloc();
-    let job = LastLength { meter: PhantomData };
     let mut m = CountMeter::new();
-    // SHA-256 of no bytes, and of 0000000000000001 61 0000000000000008 0000000000000002.
-    let none = Sheet::<LastLength<CountMeter>>::empty(alloc, 3)?;
+    let empty = Sheet::empty(alloc, 3)?;
+    let some = sheet_of(alloc, &last_length(), b"z\ny", &mut m)?;
+    assert!(rt;
+        same_sheet(
+            &some,
+            &merged(alloc, &last_length(), &some, &empty, &mut m)?
+        )
+    );
+    assert!(rt;
+        same_sheet(
+            &some,
+            &merged(alloc, &last_length(), &empty, &some, &mut m)?
+        )
+    );
+    Ok(())
+}
+
+#[test]
+fn an_empty_sheet_has_the_digest_of_no_bytes(rt: HostRuntime) -> Result<(), Fail> {
+    let alloc = rt.alloc();
+    let none = Sheet::<Last>::empty(alloc, 3)?;
     assert_eq!(rt;
         none.digest(),
         [
@@ -202,7 +237,15 @@ fn a_sheet_has_the_digest_of_its_table(rt: HostRuntime) -> Result<(), Fail> {
             0x78, 0x52, 0xb8, 0x55
         ]
     );
-    let one = sheet_of(alloc, &job, b"ab", &mut m)?;
+    Ok(())
+}
+
+#[test]
+fn a_sheet_has_the_digest_of_its_table(rt: HostRuntime) -> Result<(), Fail> {
+    let alloc = rt.alloc();
+    let mut m = CountMeter::new();
+    // SHA-256 of 0000000000000001 61 0000000000000008 0000000000000002.
+    let one = sheet_of(alloc, &last_length(), b"ab", &mut m)?;
     assert_eq!(rt;
         one.digest(),
         [
@@ -214,27 +257,61 @@ fn a_sheet_has_the_digest_of_its_table(rt: HostRuntime) -> Result<(), Fail> {
     Ok(())
 }
 
-#[test]
-fn each_key_stands_in_its_own_part(rt: HostRuntime) -> Result<(), Fail> {
-    let alloc = rt.alloc();
-    let job = LastLength { meter: PhantomData };
-    let mut m = CountMeter::new();
-    let mut records = Records::new(alloc);
-    for record in [b"c".as_slice(), b"b", b"a"] {
-        if is_record(record) && records.len() < 9 {
-            records.push(record)?;
-        }
+// An entry more, whose key is so often the same byte.
+fn put_entry(
+    alloc: Global,
+    entries: &mut Vec<(Key, u64)>,
+    byte: u8,
+    times: usize,
+    val: u64,
+) -> Result<(), AllocError> {
+    let mut key = Vec::new(alloc);
+    key.resize(times, byte)?;
+    if 1 <= key.len() && key.len() <= 65535 {
+        entries.push((Key::of(alloc, key.as_slice())?, val))?;
     }
+    Ok(())
+}
+
+#[test]
+fn a_table_longer_than_a_piece_is_hashed_whole(rt: HostRuntime) -> Result<(), Fail> {
+    let alloc = rt.alloc();
+    let mut entries = Vec::new(alloc);
+    put_entry(alloc, &mut entries, b'a', 40_000, 1)?;
+    put_entry(alloc, &mut entries, b'b', 1, 2)?;
+    // SHA-256 of the lengths, keys and values of both, as Python's hashlib has it.
+    assert_eq!(rt;
+        digest_of::<Last>(alloc, entries.as_slice())?,
+        [
+            0x2d, 0xe1, 0xd8, 0x4f, 0x7a, 0x15, 0x30, 0x50, 0x4f, 0x48, 0xbe, 0xc6, 0x09, 0x3d,
+            0x02, 0x83, 0x6f, 0xc5, 0x59, 0x0c, 0x82, 0xa2, 0xf4, 0xd4, 0xea, 0x99, 0x99, 0x69,
+            0x7a, 0x07, 0xe1, 0x4f
+        ]
+    );
+    Ok(())
+}
+
+// The entries of some parts of 16 as text, one part behind the other; none where the job does not accept the records.
+fn shown_parts(alloc: Global, text: &[u8], parts: &[usize]) -> Result<String, AllocError> {
+    let job = last_length();
+    let records = records_of(alloc, text)?;
+    let mut all = String::new(alloc);
     if all_accepted(&job, &records) {
-        let sheets = map_sheets(alloc, &job, &records, 16, &mut m)?;
-        assert_eq!(rt; sheets.len(), 16);
-        for (part, want) in [(12, "[97]=1 "), (5, "[98]=1 "), (2, "[99]=1 "), (0, "")] {
-            if let Some(sheet) = sheets.get(part) {
-                assert_eq!(rt; shown(alloc, sheet)?.as_str(), want);
+        let sheets = map_sheets(alloc, &job, &records, 16, &mut CountMeter::new())?;
+        for part in parts {
+            if let Some(sheet) = sheets.get(*part) {
+                all.push_str(shown(alloc, sheet)?.as_str())?;
             }
         }
     }
-    assert_eq!(rt; m.counts().maps, 3);
+    Ok(all)
+}
+
+#[test]
+fn each_key_stands_in_its_own_part(rt: HostRuntime) -> Result<(), Fail> {
+    let alloc = rt.alloc();
+    let found = shown_parts(alloc, b"c\nb\na", &[12, 5, 2, 0])?;
+    assert_eq!(rt; found.as_str(), "[97]=1 [98]=1 [99]=1 ");
     Ok(())
 }
 
@@ -246,12 +323,7 @@ fn answered<J: Job>(
     text: &[u8],
     m: &mut J::Meter,
 ) -> Result<(Vec<u8>, u64), AllocError> {
-    let mut records = Records::new(alloc);
-    for line in text.split(|b| *b == b'\n') {
-        if is_record(line) && records.len() < 9 {
-            records.push(line)?;
-        }
-    }
+    let records = records_of(alloc, text)?;
     let mut out = Vec::new(alloc);
     let mut count = 0;
     if all_accepted(job, &records) {
@@ -267,7 +339,7 @@ fn answer_in_parts<J: Job>(
     out: &mut Vec<u8>,
     m: &mut J::Meter,
 ) -> Result<u64, AllocError>
-    requires { All (λ r. IsTrue (J.accepts (J.setting job.now) r)) records.now }
+    requires { AllAccepted (meaning_of J.Job job.now) records.now }
 {
     let roots = map_sheets(alloc, job, records, 16, m)?;
     answer_of(alloc, job, roots.as_slice(), out)
@@ -276,12 +348,18 @@ fn answer_in_parts<J: Job>(
 #[test]
 fn parts_are_written_in_one_key_order(rt: HostRuntime) -> Result<(), Fail> {
     let alloc = rt.alloc();
-    let job = LastLength { meter: PhantomData };
     let mut m = CountMeter::new();
-    let (lines, count) = answered(alloc, &job, b"c\na\nb\naaa", &mut m)?;
+    let (lines, count) = answered(alloc, &last_length(), b"c\na\nb\naaa", &mut m)?;
     assert_eq!(rt; lines.as_slice(), b"abc".as_slice());
     assert_eq!(rt; count, 3);
-    let (none, no_keys) = answered(alloc, &job, b"", &mut m)?;
+    Ok(())
+}
+
+#[test]
+fn parts_without_records_have_no_lines(rt: HostRuntime) -> Result<(), Fail> {
+    let alloc = rt.alloc();
+    let mut m = CountMeter::new();
+    let (none, no_keys) = answered(alloc, &last_length(), b"", &mut m)?;
     assert_eq!(rt; none.len(), 0);
     assert_eq!(rt; no_keys, 0);
     Ok(())
@@ -290,7 +368,7 @@ fn parts_are_written_in_one_key_order(rt: HostRuntime) -> Result<(), Fail> {
 #[test]
 fn lines_stand_in_the_order_of_keys(rt: HostRuntime) -> Result<(), Fail> {
     let alloc = rt.alloc();
-    let job = LastLength { meter: PhantomData };
+    let job = last_length();
     let mut m = CountMeter::new();
     let sheet = sheet_of(alloc, &job, b"c\n\xff\na", &mut m)?;
     let mut out = Vec::new(alloc);
