@@ -11,3 +11,4 @@ pub mod UnitedLaws
 mod AnswerSteps
 mod LeastSteps
 pub mod PartUnion
+pub mod ShareLaws

@@ -1,11 +1,11 @@
 -- Tables in parts: each key belongs to one part.
-use Rattle.std.specs.Prelude.{◌≡◌, ◌<◌, ℕ, ◌==◌, List, ◌≤◌, ◌++◌, filter, length, slice_index_or}
+use Rattle.std.specs.Prelude.{◌≡◌, ◌<◌, ℕ, zero, suc, ◌+◌, ◌==◌, List, ◌≤◌, ◌++◌, filter, length, map, slice_index_or}
 use Rattle.partition.specs.Parts.{part_number}
-use Rattle.definitions.specs.Tables.{IsRising, HasGoodValues, table_of, merged}
+use Rattle.definitions.specs.Tables.{IsRising, HasGoodValues, keys_of, table_of, merged}
 use Rattle.definitions.specs.Answer.{pairs_of}
 use Rattle.job_laws.specs.Meanings.{Meaning}
 use Rattle.sheets.specs.Sheets.{SheetOf}
-use Rattle.sheets.specs.United.{Apart, united}
+use Rattle.sheets.specs.United.{Apart, end_to_end, united}
 
 -- The entries of a table whose keys belong to a part.
 abbrev pub in_part : {V : Type 0} → ℕ → ℕ → List (List ℕ × V) → List (List ℕ × V)
@@ -37,3 +37,12 @@ module _ {V : Type 0} where
 -- The parts of a table share no key, and their union is the table.
 abbrev pub PartsUnite : (V : Type 0) → Type 0
 PartsUnite V = (parts : ℕ) (t : List (List ℕ × V)) (lists : List (List (List ℕ × V))) → 1 ≤ parts → IsRising t → HasParts parts t lists → Apart lists × (united lists ≡ t)
+
+-- The numbers of the parts below one, added up.
+abbrev pub sum_below : (ℕ → ℕ) → ℕ → ℕ
+sum_below f zero = 0
+sum_below f (suc n) = sum_below f n + f n
+
+-- Of the tables of several lists of pairs all parts together have as many keys as all pairs have.
+abbrev pub PartsShare : {V : Type 0} → (V → V → V) → Type 0
+PartsShare {V} join = (parts : ℕ) (lists : List (List (List ℕ × V))) → 1 ≤ parts → sum_below (λ part. length (keys_of (end_to_end (map (λ pairs. in_part parts part (table_of join pairs)) lists)))) parts ≡ length (keys_of (end_to_end lists))

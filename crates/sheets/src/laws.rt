@@ -1,6 +1,6 @@
 //! What parts of tables are to each other.
 ghost use Rattle.std.specs.Prelude.{ℕ};
-ghost use Rattle.sheets.specs.Parts.{PartsAppend, PartsMerge, PartsUnite};
+ghost use Rattle.sheets.specs.Parts.{PartsAppend, PartsMerge, PartsShare, PartsUnite};
 
 use job_laws::Job;
 
@@ -9,4 +9,5 @@ pub fn part_laws<J: Job>()
     ensures append { (s : ℕ) → PartsAppend (J.good s) (J.joined s) }
     ensures merge { (s : ℕ) → PartsMerge (J.joined s) }
     ensures unite { PartsUnite J.Val }
+    ensures share { (s : ℕ) → PartsShare (J.joined s) }
 {}
