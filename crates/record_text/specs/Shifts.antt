@@ -43,9 +43,10 @@ pub record IsSlideOf (old count news : ℕ) (first gone : ℕ) (places : List �
   pub rising : IsStrictlyIncreasing places
 
 -- A window of a kind, with so many places where it is a circle, can give the shift: of `count` leaves, the first of which
--- has the number `old`, with `news` that it brings. A circle lets a leaf go only where all its places are taken.
+-- has the number `old`, with `news` that it brings. A window that grows keeps its
+-- first leaf, and a circle lets a leaf go only where all its places are taken.
 abbrev pub FitsShift : Kind → ℕ → ℕ → ℕ → ℕ → Shift → Type 0
-FitsShift Growing most old count news (Slide first gone places fresh) = IsSlideOf old count news first gone places fresh × (gone ≡ 0) × (places ≡ [])
+FitsShift Growing most old count news (Slide first gone places fresh) = IsSlideOf old count news first gone places fresh × (gone ≡ 0) × (places ≡ []) × (first ≡ old)
 FitsShift Buckets most old count news (Slide first gone places fresh) = IsSlideOf old count news first gone places fresh
 FitsShift Circle most old count news (Slide first gone places fresh) = IsSlideOf old count news first gone places fresh × ((count - gone) + fresh ≤ most) × (0 < gone → (count - gone) + fresh ≡ most)
 FitsShift Document most old count news (Splice first gone fresh) = (first + gone ≤ count) × (fresh ≡ news)
