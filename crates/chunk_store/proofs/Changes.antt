@@ -1,17 +1,28 @@
 -- What a change of one document makes of the list of files.
 use Rattle.std.proofs.Common.{◌≡◌, ◌≢◌, ◌≤◌, ℕ, suc, ◌+◌, ◌-◌, List, [], ◌∷◌, ◌++◌, length, take, drop, get_or, set, sym, ap, ◌∙◌, arith}
 use Rattle.std.proofs.lemmas.List.{length-set, take-set, drop-set-lt, get_or-set_same, set_split, get_or_read}
+use Rattle.definitions.specs.Records.{text_of}
 use Rattle.marker_chunker.specs.Cuts.{joined, chunks_of}
 use Rattle.chunk_store.specs.Documents.{text_size}
 use Rattle.chunk_store.specs.Files.{File, HasDocuments, all_chunks, ends_of, file_at, file_of, greater, with_file, IsAt, IsShelf}
 use Rattle.chunk_store.proofs.Ends.{ends_length, ends_take}
-use Rattle.chunk_store.proofs.Together.{all_append, all_with, at_with, chunks_size, count_at, docs_with, doc_at, shelf_with}
+use Rattle.chunk_store.proofs.Refusals.{text_is}
+use Rattle.chunk_store.proofs.Together.{all_append, all_with, at_with, chunks_size, count_at, docs_with, doc_at, shelf_with, split_at, text_part}
 
 -- the file at its place
 pub file_is : (name : List ℕ) (files : List File) (i : ℕ) (f : File) → IsAt name files i → f ≡ get_or files i f → (f.0 ≡ name) × (f.1 ≡ file_at name files)
 file_is name files i f h e =
     let is = get_or_read files i f h.within e ([], []) in
     (ap (λ (x : File). x.0) is ∙ h.named ([], []), ap (λ (x : File). x.1) is ∙ h.chunks ([], []))
+
+-- the text of all files once the one at its place has these records: that of the others stays
+pub text_beside : (name : List ℕ) (files : List File) (i : ℕ) (f : File) (rs : List (List ℕ)) (size own : ℕ) → IsAt name files i → f ≡ get_or files i f → size ≡ text_size (all_chunks files) → own ≡ text_size f.1
+    → (own ≤ size) × (text_size (all_chunks (with_file name (chunks_of rs) files)) ≡ size - own + length (text_of rs))
+text_beside name files i f rs size own at here sized size_of =
+    let split = split_at name files i at in
+    let old = ap text_size (file_is name files i f at here).1 in
+    let part = text_part name files split in
+    (omega arith, text_is name files rs (size - own) split (omega arith))
 
 pub some_at : (name : List ℕ) (files : List File) (i : ℕ) → IsAt name files i → HasDocuments files → file_at name files ≢ []
 some_at name files i h docs e = doc_at files i ([], []) docs h.within (h.chunks ([], []) ∙ e)

@@ -2,7 +2,7 @@
 use Rattle.std.specs.Prelude.{◌≡◌, ◌≤◌, ℕ, ◌+◌, Bool, true, List, [], ◌∷◌, ◌++◌, length, Option}
 use Rattle.std.specs.declared.option.Option.TheVariants.{None}
 use Rattle.definitions.specs.Records.{text_of}
-use Rattle.marker_chunker.specs.Cuts.{first_or, last_marks, ends, joined, IsOpen, AreChunks}
+use Rattle.marker_chunker.specs.Cuts.{first_or, last_marks, most_chunk, ends, joined, IsOpen, AreChunks}
 
 -- The chunks that are done, and the records of the begun one.
 abbrev pub Cutting : Type 0
@@ -23,7 +23,7 @@ pub record IsCutting (done : List (List (List ℕ))) (begun : List (List ℕ)) (
   pub grown : IsBegun begun
   pub marked : marks ≡ last_marks begun
   pub started : begun ≡ [] → done ≡ []
-  pub small : length (text_of begun) ≤ 65536
+  pub small : length (text_of begun) ≤ most_chunk
 
 -- Whether a boundary may lie behind the begun records, where `next` follows.
 abbrev pub stops_at : List (List ℕ) → Option (List ℕ) → Bool

@@ -3,6 +3,7 @@ use Rattle.std.specs.Prelude.{◌≡◌, ◌≢◌, ◌≤◌, ◌<◌, ℕ, ◌
 use Rattle.std.specs.List.{filter}
 use Rattle.std.specs.Ordering.{is_lt, eq_by_cmp}
 use Rattle.std.specs.declared.cmp.Ordering.TheVariants.{Less}
+use Rattle.definitions.specs.Limits.{most_files, most_text}
 use Rattle.record_text.specs.Names.{name_cmp}
 use Rattle.marker_chunker.specs.Cuts.{joined, chunks_of}
 use Rattle.chunk_store.specs.declared.change.Change.{Change}
@@ -64,7 +65,7 @@ raised before change = record { first = before + change.first; gone = change.gon
 
 -- These records would make the file with this name one too many.
 abbrev pub IsOneTooMany : List (List ℕ) → List ℕ → List File → Type 0
-IsOneTooMany records name files = (file_at name files ≡ []) × (records ≢ []) × (length files ≡ 65536)
+IsOneTooMany records name files = (file_at name files ≡ []) × (records ≢ []) × (length files ≡ most_files)
 
 -- The chunks of a file once `del` of its records from place `at` on became others.
 abbrev pub edited : ℕ → ℕ → List (List ℕ) → List (List (List ℕ)) → List (List (List ℕ))
@@ -103,7 +104,7 @@ ends_of from (f ∷ fs) = (from + length f.1) ∷ ends_of (from + length f.1) fs
 pub record IsShelf (files : List File) (ends : List ℕ) (size : ℕ) : Type 0 where
   pub names : HasRisingNames files
   pub documents : HasDocuments files
-  pub most : length files ≤ 65536
+  pub most : length files ≤ most_files
   pub ended : ends ≡ ends_of 0 files
   pub sized : size ≡ text_size (all_chunks files)
-  pub small : size ≤ 268435456
+  pub small : size ≤ most_text

@@ -1,4 +1,4 @@
-//! What an edit changes, and why it is refused.
+//! What a caller learns of an edit: which chunks are new, so that nothing else is looked at again, or why there are none.
 ghost use Rattle.std.specs.Prelude.{◌≡◌, ◌<◌, ◌+◌, ◌^◌};
 ghost use Rattle.chunk_store.specs.Files.{raised};
 
@@ -34,7 +34,7 @@ pub enum EditFault {
     /// The text would have more than 268,435,456 bytes.
     #[error("more text than a window may have")]
     WindowLarge,
-    /// Want of memory.
+    /// Out of memory.
     #[error("out of memory")]
     Mem,
 }

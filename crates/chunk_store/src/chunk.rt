@@ -1,4 +1,4 @@
-//! Chunks with their counts.
+//! A chunk is a run of records that is shared, so that an edit moves those that it does not cut again without a copy.
 ghost use Rattle.std.specs.Prelude.{◌≡◌, ◌≤◌, length, IfOk};
 ghost use Rattle.definitions.specs.Records.{text_of};
 

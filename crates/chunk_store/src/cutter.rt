@@ -1,4 +1,4 @@
-//! Cuts records one by one.
+//! Cuts a stream of records into chunks as they come, by the rule of `marker_chunker`.
 ghost use Rattle.std.specs.Prelude.{◌≡◌, ◌<◌, ◌≤◌, ◌+◌, ◌-◌, ◌++◌, ◌∷◌, [], ℕ, List, length, take, drop, IfOk, Option, true, false};
 ghost use Rattle.std.specs.declared.option.Option.TheVariants.{Some};
 ghost use Rattle.definitions.specs.Records.{IsRecord};

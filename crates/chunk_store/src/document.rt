@@ -1,5 +1,6 @@
-//! A list of records in chunks.
+//! One document: an edit cuts again only what it may have moved, and the chunks are still those of a cut from nothing.
 ghost use Rattle.std.specs.Prelude.{◌≡◌, ◌<◌, ◌≤◌, ◌+◌, ◌++◌, [], length, take, drop, slice_index_or, IfOk, OnOk, OnErr};
+ghost use Rattle.definitions.specs.Limits.{most_text};
 ghost use Rattle.definitions.specs.Records.{text_of};
 ghost use Rattle.marker_chunker.specs.Cuts.{joined, chunks_of};
 ghost use Rattle.chunk_store.specs.Documents.{spliced, text_size, Answers, IsSplice, IsChange, IsWhole};
@@ -12,8 +13,8 @@ use record_text::{Bundle, Records};
 use std::alloc::{AllocError, Global};
 use std::marker::Model;
 
-/// How many bytes of text a document may have, or all files together.
-pub const MOST_TEXT: u64 = 268_435_456;
+/// The most bytes of text of a document, or of all files together.
+const MOST_TEXT: u64 = definitions::MOST_TEXT as u64;
 
 /// Puts fresh chunks in the place of those from `first` to `last`; the others are moved, not copied.
 fn replace(
@@ -52,12 +53,13 @@ impl Model for Document {
     ghost use Rattle.std.specs.declared.option.Option.TheVariants.{None};
     ghost use Rattle.marker_chunker.specs.Cuts.{joined, AreChunks};
     ghost use Rattle.chunk_store.specs.Documents.{text_size};
+    ghost use Rattle.definitions.specs.Limits.{most_text};
 
     ghost Value = { List (List (List ℕ)) };
 
     ghost view = { λ d. d.chunks.items };
 
-    ghost invariant = { λ d. AreChunks d.chunks.items None × (d.count ≡ length (joined d.chunks.items)) × (d.size ≡ text_size d.chunks.items) × (d.size ≤ 268435456) };
+    ghost invariant = { λ d. AreChunks d.chunks.items None × (d.count ≡ length (joined d.chunks.items)) × (d.size ≡ text_size d.chunks.items) × (d.size ≤ most_text) };
 }
 
 impl Document {
@@ -98,7 +100,7 @@ impl Document {
     /// How many bytes the text of the records has.
     pub fn text_len(&self) -> u64
         ensures size { result ≡ text_size self.now }
-        ensures most { result ≤ 268435456 }
+        ensures most { result ≤ most_text }
     {
         self.size
     }
@@ -114,7 +116,7 @@ impl Document {
     ) -> Result<Change, AllocError>
         requires within { at + del ≤ length (joined self.old) }
         requires size { size ≡ length (text_of (spliced at del ins.now (joined self.old))) }
-        requires most { size ≤ 268435456 }
+        requires most { size ≤ most_text }
         ensures ok { OnOk result (self.new ≡ chunks_of (spliced at del ins.now (joined self.old))) }
         ensures change { IfOk result (IsChange at del ins.now self.old self.new) }
         ensures splice { IfOk result (IsSplice self.old self.new) }
@@ -147,8 +149,8 @@ impl Document {
         ins: &Records,
         others: u64,
     ) -> Result<Change, EditFault>
-        requires { others + text_size self.old ≤ 268435456 }
-        ensures answers { Answers (length (joined self.old) < at + del) (268435456 < others + length (text_of (spliced at del ins.now (joined self.old)))) result }
+        requires { others + text_size self.old ≤ most_text }
+        ensures answers { Answers (length (joined self.old) < at + del) (most_text < others + length (text_of (spliced at del ins.now (joined self.old)))) result }
         ensures ok { OnOk result (self.new ≡ chunks_of (spliced at del ins.now (joined self.old))) }
         ensures change { IfOk result (IsChange at del ins.now self.old self.new) }
         ensures splice { IfOk result (IsSplice self.old self.new) }
@@ -177,8 +179,8 @@ impl Document {
         records: &Records,
         others: u64,
     ) -> Result<Change, EditFault>
-        requires { others ≤ 268435456 }
-        ensures answers { Answers ⊥ (268435456 < others + length (text_of records.now)) result }
+        requires { others ≤ most_text }
+        ensures answers { Answers ⊥ (most_text < others + length (text_of records.now)) result }
         ensures ok { OnOk result (self.new ≡ chunks_of records.now) }
         ensures change { IfOk result (IsWhole 0 self.old self.new) }
         ensures err { OnErr result (self.new ≡ self.old) }
@@ -211,7 +213,7 @@ impl Document {
         del: u32,
         ins: Records,
     ) -> Result<Change, EditFault>
-        ensures answers { Answers (length (joined self.old) < at + del) (268435456 < length (text_of (spliced at del ins (joined self.old)))) result }
+        ensures answers { Answers (length (joined self.old) < at + del) (most_text < length (text_of (spliced at del ins (joined self.old)))) result }
         ensures ok { OnOk result (self.new ≡ chunks_of (spliced at del ins (joined self.old))) }
         ensures change { IfOk result (IsChange at del ins self.old self.new) }
         ensures splice { IfOk result (IsSplice self.old self.new) }
@@ -223,7 +225,7 @@ impl Document {
 
     /// The document becomes these records. It costs their text.
     pub fn load(&mut self, alloc: Global, records: Records) -> Result<Change, EditFault>
-        ensures answers { Answers ⊥ (268435456 < length (text_of records)) result }
+        ensures answers { Answers ⊥ (most_text < length (text_of records)) result }
         ensures ok { OnOk result (self.new ≡ chunks_of records) }
         ensures change { IfOk result (IsWhole 0 self.old self.new) }
         ensures err { OnErr result (self.new ≡ self.old) }

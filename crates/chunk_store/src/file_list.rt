@@ -1,5 +1,6 @@
 //! A list of documents in the order of their names, and where the chunks of each end.
 ghost use Rattle.std.specs.Prelude.{◌≡◌, ◌<◌, ◌≤◌, ◌+◌, ◌++◌, ◌∷◌, List, length, take, drop, slice_index_or, vec_capacity, IfOk, IfErr, OnOk, OnErr};
+ghost use Rattle.definitions.specs.Limits.{most_text};
 ghost use Rattle.chunk_store.specs.Files.{File, HasRisingNames, IsAt, IsGap, all_chunks, ends_of, file_of};
 
 use crate::Document;
@@ -42,7 +43,7 @@ fn fill(ends: &mut Vec<usize>, files: &[(Name, Document)], from: usize)
     requires within { from ≤ length files.now }
     requires front { take from ends.old.items ≡ ends_of 0 (take from files.now) }
     requires room { length files.now ≤ vec_capacity ends.old }
-    requires small { length (all_chunks files.now) ≤ 268435456 }
+    requires small { length (all_chunks files.now) ≤ most_text }
     ensures { ends.new.items ≡ ends_of 0 files.now }
 {
     ends.truncate(from);
@@ -68,7 +69,7 @@ pub fn settle(files: &mut Vec<(Name, Document)>, ends: &mut Vec<usize>, i: usize
     requires within { i < length files.old.items }
     requires front { take i ends.old.items ≡ ends_of 0 (take i files.old.items) }
     requires ends { length ends.old.items ≡ length files.old.items }
-    requires small { length (all_chunks files.old.items) ≤ 268435456 }
+    requires small { length (all_chunks files.old.items) ≤ most_text }
     ensures files { (d : File) → files.new.items ≡ take i files.old.items ++ (file_of (slice_index_or files.old.items i d).0 (slice_index_or files.old.items i d).1 ++ drop (i + 1) files.old.items) }
     ensures ends { ends.new.items ≡ ends_of 0 files.new.items }
 {
@@ -86,7 +87,7 @@ pub fn insert(
 ) -> Result<(), AllocError>
     requires within { i ≤ length files.old.items }
     requires ends { ends.old.items ≡ ends_of 0 files.old.items }
-    requires small { length (all_chunks files.old.items) + length document ≤ 268435456 }
+    requires small { length (all_chunks files.old.items) + length document ≤ most_text }
     ensures files { OnOk result (files.new.items ≡ take i files.old.items ++ ((name, document) ∷ drop i files.old.items)) }
     ensures ends { OnOk result (ends.new.items ≡ ends_of 0 files.new.items) }
     ensures err { OnErr result ((files.new.items ≡ files.old.items) × (ends.new.items ≡ ends.old.items)) }
@@ -107,7 +108,7 @@ pub fn insert(
 pub fn take_out(files: &mut Vec<(Name, Document)>, ends: &mut Vec<usize>, i: usize)
     requires within { i < length files.old.items }
     requires ends { ends.old.items ≡ ends_of 0 files.old.items }
-    requires small { length (all_chunks files.old.items) ≤ 268435456 }
+    requires small { length (all_chunks files.old.items) ≤ most_text }
     ensures files { files.new.items ≡ take i files.old.items ++ drop (i + 1) files.old.items }
     ensures ends { ends.new.items ≡ ends_of 0 files.new.items }
 {

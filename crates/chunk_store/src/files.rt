@@ -1,5 +1,6 @@
-//! Documents by name, one of them the current one.
+//! The documents of a window, which are edited by the name that a command chose before: the crate's widest entry.
 ghost use Rattle.std.specs.Prelude.{◌≡◌, ◌<◌, ◌≤◌, ◌+◌, [], ◌⊎◌, length, slice_index_or, IfOk, OnOk, OnErr};
+ghost use Rattle.definitions.specs.Limits.{most_files, most_text};
 ghost use Rattle.marker_chunker.specs.Cuts.{joined, chunks_of};
 ghost use Rattle.chunk_store.specs.Documents.{text_size, Answers, IsSplice};
 ghost use Rattle.chunk_store.specs.Files.{HasRisingNames, HasDocuments, IsOneTooMany, IsEditOf, IsLoadOf, all_chunks, edited, file_at, with_file};
@@ -50,7 +51,7 @@ impl Files {
     /// How many files have records.
     pub fn file_count(&self) -> usize
         ensures count { result ≡ length self.now.0 }
-        ensures most { result ≤ 65536 }
+        ensures most { result ≤ most_files }
         ensures names { HasRisingNames self.now.0 }
         ensures documents { HasDocuments self.now.0 }
     {
@@ -82,7 +83,7 @@ impl Files {
     /// How many bytes the text of all files has.
     pub fn text_len(&self) -> u64
         ensures size { result ≡ text_size (all_chunks self.now.0) }
-        ensures most { result ≤ 268435456 }
+        ensures most { result ≤ most_text }
     {
         self.shelf.text_len()
     }
@@ -96,7 +97,7 @@ impl Files {
         del: u32,
         ins: Records,
     ) -> Result<Change, EditFault>
-        ensures answers { Answers ((length (joined (file_at self.old.1 self.old.0)) < at + del) ⊎ IsOneTooMany ins self.old.1 self.old.0) (268435456 < text_size (all_chunks (with_file self.old.1 (edited at del ins (file_at self.old.1 self.old.0)) self.old.0))) result }
+        ensures answers { Answers ((length (joined (file_at self.old.1 self.old.0)) < at + del) ⊎ IsOneTooMany ins self.old.1 self.old.0) (most_text < text_size (all_chunks (with_file self.old.1 (edited at del ins (file_at self.old.1 self.old.0)) self.old.0))) result }
         ensures ok { OnOk result (self.new ≡ (with_file self.old.1 (edited at del ins (file_at self.old.1 self.old.0)) self.old.0, self.old.1)) }
         ensures change { IfOk result (IsEditOf at del ins self.old.1 self.old.0) }
         ensures splice { IfOk result (IsSplice (all_chunks self.old.0) (all_chunks self.new.0)) }
@@ -107,7 +108,7 @@ impl Files {
 
     /// The load of the current file, which becomes these records. It costs their text, and a walk over the files.
     pub fn load(&mut self, alloc: Global, records: Records) -> Result<Change, EditFault>
-        ensures answers { Answers (IsOneTooMany records self.old.1 self.old.0) (268435456 < text_size (all_chunks (with_file self.old.1 (chunks_of records) self.old.0))) result }
+        ensures answers { Answers (IsOneTooMany records self.old.1 self.old.0) (most_text < text_size (all_chunks (with_file self.old.1 (chunks_of records) self.old.0))) result }
         ensures ok { OnOk result (self.new ≡ (with_file self.old.1 (chunks_of records) self.old.0, self.old.1)) }
         ensures change { IfOk result (IsLoadOf (chunks_of records) self.old.1 self.old.0) }
         ensures splice { IfOk result (IsSplice (all_chunks self.old.0) (all_chunks self.new.0)) }

@@ -1,4 +1,4 @@
-//! Laws of the definitions.
+//! What holds of the definitions. Each function does nothing: its contract is the law, which a caller has by calling it.
 ghost use Rattle.std.specs.Prelude.{◌≡◌, ◌≢◌, ℕ, List};
 ghost use Rattle.chunk_store.specs.Files.{File, file_at, with_file};
 

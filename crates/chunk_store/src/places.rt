@@ -1,5 +1,6 @@
-//! Places of records among chunks.
+//! Finds the chunk of a record and the text that an edit keeps, by the counts beside the chunks alone.
 ghost use Rattle.std.specs.Prelude.{◌≡◌, ◌<◌, ◌≤◌, ◌+◌, ℕ, List, length, take};
+ghost use Rattle.definitions.specs.Limits.{most_text};
 ghost use Rattle.definitions.specs.Records.{text_of};
 ghost use Rattle.marker_chunker.specs.Cuts.{joined, reach};
 ghost use Rattle.chunk_store.specs.Documents.{spliced, text_size};
@@ -18,7 +19,7 @@ pub struct Spot {
 /// The chunk that holds record `k`, or the number of chunks where none does. It is a walk over the counts of the chunks
 /// before.
 pub fn find(chunks: &[Chunk], k: usize) -> Spot
-    requires { text_size chunks.now ≤ 268435456 }
+    requires { text_size chunks.now ≤ most_text }
     ensures within { result.chunk ≤ length chunks.now }
     ensures start { result.start ≡ reach result.chunk chunks.now }
     ensures text { result.text ≡ text_size (take result.chunk chunks.now) }
@@ -61,7 +62,7 @@ fn text_of_first(records: &Records, n: usize) -> u64
 
 /// How many bytes of text the records before place `k` have. It reads lengths of records in one chunk alone.
 pub fn text_before(chunks: &[Chunk], k: usize) -> u64
-    requires small { text_size chunks.now ≤ 268435456 }
+    requires small { text_size chunks.now ≤ most_text }
     requires within { k ≤ length (joined chunks.now) }
     ensures { result ≡ length (text_of (take k (joined chunks.now))) }
 {
@@ -74,7 +75,7 @@ pub fn text_before(chunks: &[Chunk], k: usize) -> u64
 
 /// How many bytes of text stay where `del` records from place `at` on go, of `size` in all.
 pub fn text_kept(chunks: &[Chunk], size: u64, at: usize, del: usize) -> u64
-    requires small { text_size chunks.now ≤ 268435456 }
+    requires small { text_size chunks.now ≤ most_text }
     requires size { size ≡ text_size chunks.now }
     requires within { at + del ≤ length (joined chunks.now) }
     ensures most { result ≤ size }

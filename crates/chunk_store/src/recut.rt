@@ -1,5 +1,6 @@
-//! Cuts again around the place of an edit.
+//! Cuts again around an edit, from the chunk of the record before it to the first old boundary that is one still.
 ghost use Rattle.std.specs.Prelude.{◌≡◌, ◌<◌, ◌≤◌, ◌+◌, ◌++◌, ℕ, length, take, drop, IfOk, true};
+ghost use Rattle.definitions.specs.Limits.{most_text};
 ghost use Rattle.std.specs.declared.option.Option.TheVariants.{None};
 ghost use Rattle.marker_chunker.specs.Cuts.{first_or, joined, reach, chunks_of, AreChunks};
 ghost use Rattle.chunk_store.specs.Cutting.{records_of, stops_at};
@@ -20,7 +21,7 @@ pub struct Reached {
 
 /// Cuts the records before place `at` from the start of the chunk that holds the one before it.
 pub fn head(alloc: Global, chunks: &[Chunk], at: usize) -> Result<Reached, AllocError>
-    requires small { text_size chunks.now ≤ 268435456 }
+    requires small { text_size chunks.now ≤ most_text }
     requires within { at ≤ length (joined chunks.now) }
     ensures within { IfOk result (λ r. r.place ≤ length chunks.now) }
     ensures records { IfOk result (λ r. joined (take r.place chunks.now) ++ records_of r.cutter ≡ take at (joined chunks.now)) }
@@ -47,7 +48,7 @@ pub fn tail(
     chunks: &[Chunk],
     to: usize,
 ) -> Result<Reached, AllocError>
-    requires small { text_size chunks.now ≤ 268435456 }
+    requires small { text_size chunks.now ≤ most_text }
     requires within { to ≤ length (joined chunks.now) }
     requires chunks { AreChunks chunks.now None }
     ensures within { IfOk result (λ r. (r.place ≤ length chunks.now) × (to ≤ reach r.place chunks.now)) }
@@ -112,7 +113,7 @@ pub fn cut_again(
     del: usize,
     ins: &Records,
 ) -> Result<Again, AllocError>
-    requires small { text_size chunks.now ≤ 268435456 }
+    requires small { text_size chunks.now ≤ most_text }
     requires within { at + del ≤ length (joined chunks.now) }
     requires chunks { AreChunks chunks.now None }
     ensures within { IfOk result (λ a. a.last ≤ length chunks.now) }

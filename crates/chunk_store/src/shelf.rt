@@ -1,17 +1,17 @@
-//! Documents in the order of their names.
+//! Many documents as one list of chunks: it knows where the chunks of each end, so that one of all is found by a binary
+//! search, and how much text they have together.
 ghost use Rattle.std.specs.Prelude.{◌≡◌, ◌≢◌, ◌↔◌, IsTrue, ◌<◌, ◌≤◌, ◌+◌, [], ◌⊎◌, length, slice_index_or, IfOk, OnOk, OnErr};
+ghost use Rattle.definitions.specs.Limits.{most_files, most_text};
 ghost use Rattle.marker_chunker.specs.Cuts.{joined, chunks_of};
 ghost use Rattle.chunk_store.specs.Documents.{text_size, Answers, IsSplice};
 ghost use Rattle.chunk_store.specs.Files.{HasRisingNames, HasDocuments, IsGap, IsOneTooMany, IsEditOf, IsLoadOf, all_chunks, chunks_before, edited, file_at, raised, with_file};
 
 use crate::file_list::{file_begin, find_chunk, find_file, insert, settle, take_out};
 use crate::{Change, Document, EditFault};
+use definitions::MOST_FILES;
 use record_text::{Bundle, Name, Records};
 use std::alloc::{AllocError, Global};
 use std::marker::Model;
-
-/// How many files may have records.
-const MOST_FILES: usize = 65_536;
 
 /// Documents that have records, seen with their names, in the order of these. Where their chunks end stands beside
 /// them, so that a chunk of all is found by a binary search.
@@ -49,7 +49,7 @@ impl Shelf {
     /// How many files there are.
     pub fn file_count(&self) -> usize
         ensures count { result ≡ length self.now }
-        ensures most { result ≤ 65536 }
+        ensures most { result ≤ most_files }
         ensures names { HasRisingNames self.now }
         ensures documents { HasDocuments self.now }
     {
@@ -86,7 +86,7 @@ impl Shelf {
     /// How many bytes of text all files have.
     pub fn text_len(&self) -> u64
         ensures size { result ≡ text_size (all_chunks self.now) }
-        ensures most { result ≤ 268435456 }
+        ensures most { result ≤ most_text }
     {
         self.size
     }
@@ -102,8 +102,8 @@ impl Shelf {
     ) -> Result<Change, AllocError>
         requires place { IsGap name.now self.old i }
         requires document { document ≡ chunks_of (joined document) }
-        requires room { (document ≢ []) → length self.old < 65536 }
-        requires small { text_size (all_chunks self.old) + text_size document ≤ 268435456 }
+        requires room { (document ≢ []) → length self.old < most_files }
+        requires small { text_size (all_chunks self.old) + text_size document ≤ most_text }
         requires first { change.first ≡ 0 }
         ensures ok { OnOk result (self.new ≡ with_file name.now document self.old) }
         ensures change { IfOk result (λ c. c ≡ raised (chunks_before name.now self.old) change) }
@@ -128,7 +128,7 @@ impl Shelf {
 
     /// Whether a file with these records would be one too many.
     fn is_full(&self, records: &Records) -> bool
-        ensures { IsTrue result ↔ ((records.now ≢ []) × (length self.now ≡ 65536)) }
+        ensures { IsTrue result ↔ ((records.now ≢ []) × (length self.now ≡ most_files)) }
     {
         !records.is_empty() && self.files.len() == MOST_FILES
     }
@@ -144,7 +144,7 @@ impl Shelf {
         ins: &Records,
     ) -> Result<Change, EditFault>
         requires { IsGap name.now self.old i }
-        ensures answers { Answers ((length (joined (file_at name.now self.old)) < at + del) ⊎ IsOneTooMany ins.now name.now self.old) (268435456 < text_size (all_chunks (with_file name.now (edited at del ins.now (file_at name.now self.old)) self.old))) result }
+        ensures answers { Answers ((length (joined (file_at name.now self.old)) < at + del) ⊎ IsOneTooMany ins.now name.now self.old) (most_text < text_size (all_chunks (with_file name.now (edited at del ins.now (file_at name.now self.old)) self.old))) result }
         ensures ok { OnOk result (self.new ≡ with_file name.now (edited at del ins.now (file_at name.now self.old)) self.old) }
         ensures change { IfOk result (IsEditOf at del ins.now name.now self.old) }
         ensures splice { IfOk result (IsSplice (all_chunks self.old) (all_chunks self.new)) }
@@ -173,7 +173,7 @@ impl Shelf {
         del: u32,
         ins: &Records,
     ) -> Result<Change, EditFault>
-        ensures answers { Answers ((length (joined (file_at name.now self.old)) < at + del) ⊎ IsOneTooMany ins.now name.now self.old) (268435456 < text_size (all_chunks (with_file name.now (edited at del ins.now (file_at name.now self.old)) self.old))) result }
+        ensures answers { Answers ((length (joined (file_at name.now self.old)) < at + del) ⊎ IsOneTooMany ins.now name.now self.old) (most_text < text_size (all_chunks (with_file name.now (edited at del ins.now (file_at name.now self.old)) self.old))) result }
         ensures ok { OnOk result (self.new ≡ with_file name.now (edited at del ins.now (file_at name.now self.old)) self.old) }
         ensures change { IfOk result (IsEditOf at del ins.now name.now self.old) }
         ensures splice { IfOk result (IsSplice (all_chunks self.old) (all_chunks self.new)) }
@@ -203,7 +203,7 @@ impl Shelf {
         records: &Records,
     ) -> Result<Change, EditFault>
         requires { IsGap name.now self.old i }
-        ensures answers { Answers (IsOneTooMany records.now name.now self.old) (268435456 < text_size (all_chunks (with_file name.now (chunks_of records.now) self.old))) result }
+        ensures answers { Answers (IsOneTooMany records.now name.now self.old) (most_text < text_size (all_chunks (with_file name.now (chunks_of records.now) self.old))) result }
         ensures ok { OnOk result (self.new ≡ with_file name.now (chunks_of records.now) self.old) }
         ensures change { IfOk result (IsLoadOf (chunks_of records.now) name.now self.old) }
         ensures splice { IfOk result (IsSplice (all_chunks self.old) (all_chunks self.new)) }
@@ -230,7 +230,7 @@ impl Shelf {
         name: &Name,
         records: &Records,
     ) -> Result<Change, EditFault>
-        ensures answers { Answers (IsOneTooMany records.now name.now self.old) (268435456 < text_size (all_chunks (with_file name.now (chunks_of records.now) self.old))) result }
+        ensures answers { Answers (IsOneTooMany records.now name.now self.old) (most_text < text_size (all_chunks (with_file name.now (chunks_of records.now) self.old))) result }
         ensures ok { OnOk result (self.new ≡ with_file name.now (chunks_of records.now) self.old) }
         ensures change { IfOk result (IsLoadOf (chunks_of records.now) name.now self.old) }
         ensures splice { IfOk result (IsSplice (all_chunks self.old) (all_chunks self.new)) }

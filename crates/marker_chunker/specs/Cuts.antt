@@ -15,9 +15,17 @@ last_marks [] = false
 last_marks (r ∷ []) = is_marker r
 last_marks (r ∷ s ∷ rs) = last_marks (s ∷ rs)
 
+-- The least bytes of text with which a marker ends a chunk.
+abbrev pub least_chunk : ℕ
+least_chunk = 512
+
+-- The most bytes of text of a chunk.
+abbrev pub most_chunk : ℕ
+most_chunk = 65536
+
 -- Whether a chunk of so many bytes ends before a record of so many, where `marks` says that its last is a marker.
 abbrev pub ends_by : Bool → ℕ → ℕ → Bool
-ends_by marks size more = (marks && nat_le 512 size) || nat_lt 65536 (size + (more + 1))
+ends_by marks size more = (marks && nat_le least_chunk size) || nat_lt most_chunk (size + (more + 1))
 
 -- Whether the chunk that these records begin ends behind them, where `next` follows.
 unfoldable pub ends : List (List ℕ) → Option (List ℕ) → Bool

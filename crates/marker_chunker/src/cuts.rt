@@ -1,4 +1,4 @@
-//! Where chunks end.
+//! Where a chunk ends: behind a marker once it has some text, or where the next record would make its text too long.
 ghost use Rattle.std.specs.Prelude.{◌≡◌, ◌<◌, ◌^◌, length, drop, IfOk};
 ghost use Rattle.marker_chunker.specs.Cuts.{ends_by, first_length, places, chunks_of};
 
@@ -6,13 +6,19 @@ use crate::marker::is_marker;
 use record_text::Records;
 use std::alloc::{AllocError, Global};
 
+/// The least bytes of text with which a marker ends a chunk.
+const LEAST_CHUNK: u64 = 512;
+
+/// The most bytes of text of a chunk; the longest record fills one.
+const MOST_CHUNK: u64 = 65_536;
+
 /// Whether a chunk of `size` bytes ends before a record of `more` bytes, where `marks` says that its last record is a
 /// marker.
 pub fn ends_before(marks: bool, size: u64, more: usize) -> bool
     requires { (size < 2 ^ 62) × (more < 2 ^ 62) }
     ensures { result ≡ ends_by marks size more }
 {
-    marks && size >= 512 || size + (more as u64 + 1) > 65536
+    marks && size >= LEAST_CHUNK || size + (more as u64 + 1) > MOST_CHUNK
 }
 
 /// How many records the chunk that begins at `from` has. It is one pass over the bytes of these records.

@@ -1,4 +1,4 @@
-//! Which records are markers.
+//! Markers are records that end a chunk by their own bytes, so that an edit moves no boundary but those beside it.
 ghost use Rattle.std.specs.Prelude.{◌≡◌, ◌&&◌, nat_lt};
 ghost use Rattle.marker_chunker.specs.Markers.{marks, is_marker};
 

@@ -1,4 +1,4 @@
-//! The rolling hash of a window.
+//! A hash that goes on byte by byte, so that all windows of a record are hashed in one pass over it.
 ghost use Rattle.std.specs.Prelude.{◌≡◌, ◌+◌, ◌*◌, ◌%◌, ◌^◌, ◌++◌, ◌∷◌, []};
 ghost use Rattle.marker_chunker.specs.Markers.{window_hash, last_bytes, marks};
 

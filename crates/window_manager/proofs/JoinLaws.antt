@@ -15,9 +15,9 @@ take_less (suc n) zero l le = absurd (omega (arith, le))
 take_less (suc n) (suc m) [] le = refl
 take_less (suc n) (suc m) (x ∷ l) le = ap (λ (r : List Leaf). x ∷ r) (take_less n m l (omega (arith, le)))
 
--- the same front is there in front of the same front
-front : (xs ys : List Leaf) (n m : ℕ) → n ≤ m → take m xs ≡ take m ys → take n xs ≡ take n ys
-front xs ys n m le is = sym (take_less n m xs le) ∙ ap (λ (l : List Leaf). take n l) is ∙ take_less n m ys le
+-- the same prefix has the same shorter prefixes
+prefix : (xs ys : List Leaf) (n m : ℕ) → n ≤ m → take m xs ≡ take m ys → take n xs ≡ take n ys
+prefix xs ys n m le is = sym (take_less n m xs le) ∙ ap (λ (l : List Leaf). take n l) is ∙ take_less n m ys le
 
 -- the last of two lists that end alike
 last_same : (xs ys : List Leaf) (m n k : ℕ) → drop m xs ≡ drop n ys → m ≤ length xs → n ≤ length ys → k ≤ length xs - m → drop (length xs - k) xs ≡ drop (length ys - k) ys
@@ -55,7 +55,7 @@ module _ (olds mids news : List Leaf) (first gone fresh : ℕ) (t : Change) (s :
       record {
         within = omega (arith, old);
         fits = omega (arith, new);
-        before = front news mids f t.first f2 is.before ∙ front mids olds f first f1 s.before;
+        before = prefix news mids f t.first f2 is.before ∙ prefix mids olds f first f1 s.before;
         behind = ap (λ (i : ℕ). drop i news) new ∙ last_same news mids (t.first + t.fresh) (t.first + t.gone) k is.behind is.fits is.within room ∙ last_same mids olds (first + fresh) (first + gone) k s.behind s.fits s.within mid ∙ ap (λ (i : ℕ). drop i olds) (sym old);
       }
 

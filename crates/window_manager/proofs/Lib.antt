@@ -8,3 +8,4 @@ pub mod JoinLaws
 pub mod SlideLaws
 pub mod SinceLaws
 pub mod SinceSteps
+pub mod BalanceLaws

@@ -59,7 +59,7 @@ nat_below p q lt = grind (arith, nat_tests)
 pub nat_not_below : (p q : ℕ) → q ≤ p → nat_lt p q ≡ false
 nat_not_below p q le = grind (arith, nat_tests)
 
--- the places in front of one are below it
+-- the places before one are below it
 pub rising_before : (ps : List ℕ) → IsStrictlyIncreasing ps → (i : ℕ) → i < length ps → All (λ x. x < get_or ps i 0) (take i ps)
 rising_before ps rising zero lt = λ k d h. absurd (omega (arith, h))
 rising_before ps rising (suc i) lt =
@@ -77,8 +77,8 @@ all_last : (q : ℕ) (xs : List ℕ) (y : ℕ) → All (λ x. x < q) (xs ++ y �
 all_last q [] y all = all 0 0 (omega arith)
 all_last q (x ∷ xs) y all = all_last q xs y (All-tail (λ x. x < q) x (xs ++ y ∷ []) all)
 
-pub all_front : (ps : List ℕ) (i p q : ℕ) → i < length ps → p ≡ get_or ps i 0 → All (λ x. x < q) (take (i + 1) ps) → All (λ x. x < q) (take i ps) × (p < q)
-all_front ps i p q lt is all =
+pub all_first : (ps : List ℕ) (i p q : ℕ) → i < length ps → p ≡ get_or ps i 0 → All (λ x. x < q) (take (i + 1) ps) → All (λ x. x < q) (take i ps) × (p < q)
+all_first ps i p q lt is all =
     let split : All (λ x. x < q) (take i ps ++ p ∷ []) = subst (λ (l : List ℕ). All (λ x. x < q) l) (more ps i p lt is) all in
     (all_left q (take i ps) (p ∷ []) split, all_last q (take i ps) p split)
 

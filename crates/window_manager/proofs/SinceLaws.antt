@@ -21,13 +21,13 @@ use Rattle.window_manager.specs.Since.{IsSince, fresh_leaves}
 use Rattle.window_manager.proofs.SlideLaws.{Follows, Lacks, put_length, put_other, put_same}
 
 -- what a kind of buckets adds: a circle lets one go only where it is full, and one that grows lets none go
-abbrev pub Keeps : Kind → ℕ → ℕ → ℕ → Slid → Type 0
-Keeps Kinds.Buckets places old count s = Unit {0}
-Keeps Kinds.Circle places old count s = (count ≤ places) × (count - s.fresh < old → count ≡ places)
-Keeps Kinds.Growing places old count s = (old ≤ count - s.fresh) × (s.late ≡ [])
-Keeps Kinds.Document places old count s = ⊥
+abbrev pub KindAdds : Kind → ℕ → ℕ → ℕ → ℕ → Slid → Type 0
+KindAdds Kinds.Buckets places first old count s = Unit {0}
+KindAdds Kinds.Circle places first old count s = (count ≤ places) × (count - s.fresh < old → count ≡ places)
+KindAdds Kinds.Growing places first old count s = (old ≤ count - s.fresh) × (s.late ≡ []) × (s.accepted - count ≡ first)
+KindAdds Kinds.Document places first old count s = ⊥
 
-map_same : {X : Type 0} (f g : ℕ → X) (ps : List ℕ) → All (λ p. f p ≡ g p) ps → map f ps ≡ map g ps
+pub map_same : {X : Type 0} (f g : ℕ → X) (ps : List ℕ) → All (λ p. f p ≡ g p) ps → map f ps ≡ map g ps
 map_same f g [] all = refl
 map_same f g (p ∷ ps) all = λ i. all 0 0 (omega arith) i ∷ map_same f g ps (All-tail (λ q. f q ≡ g q) p ps all) i
 
@@ -55,8 +55,8 @@ module _ {X : Type 0} (none : X) (olds now : List X) (late : List ℕ) (number g
       let here : length (take k now) ≡ k = omega (arith, length-take k now) in
       let there : length (drop gone olds) ≡ k = omega (arith, length-drop gone olds, count) in
       let put : take k now ≡ put_at late (map (λ p. get_or (take k now) p none) late) (drop gone olds) =
-        put_same none late (take k now) (drop gone olds) (here ∙ sym there)
-        (λ i lt out. let l : i < k = omega (arith, here, lt) in get_or-take k now i none l ∙ same i l out ∙ sym (get_or-drop gone olds i none))
+      put_same none late (take k now) (drop gone olds) (here ∙ sym there)
+      (λ i lt out. let l : i < k = omega (arith, here, lt) in get_or-take k now i none l ∙ same i l out ∙ sym (get_or-drop gone olds i none))
       in
       let reads : map (λ p. get_or (take k now) p none) late ≡ map read late = map_same (λ p. get_or (take k now) p none) read late (λ j d h. get_or-take k now (get_or late j d) none (late_in j d h)) in
       sym (take-append-drop k now)
@@ -67,8 +67,15 @@ module _ {X : Type 0} (none : X) (olds now : List X) (late : List ℕ) (number g
     length_of : length now ≡ (length olds - gone) + (length now - (length now - fresh))
     length_of =
         let news : List X = brought none (Slide number gone late fresh) now in
-        omega (arith, ap (λ (l : List X). length l) leads, length-append (put_at late news (drop gone olds)) (drop (length late) news),
-          put_length none late news (drop gone olds), length-drop gone olds, ap (λ (l : List X). length l) brings, length-drop (length now - fresh) now)
+        omega (
+          arith,
+          ap (λ (l : List X). length l) leads,
+          length-append (put_at late news (drop gone olds)) (drop (length late) news),
+          put_length none late news (drop gone olds),
+          length-drop gone olds,
+          ap (λ (l : List X). length l) brings,
+          length-drop (length now - fresh) now,
+        )
 
     leads_same : (i : ℕ) → i < length olds - gone → Lacks i late → read i ≡ get_or olds (gone + i) none
     leads_same i lt out =
@@ -140,23 +147,23 @@ module _ (places first number gone fresh news : ℕ) (late : List ℕ) (count : 
   slide_fits Kinds.Document other is = absurd (other refl)
 
 module _ (first : ℕ) (olds now : List Leaf) (s : Slid) (places news : ℕ) (f : Follows [] first olds now s) where
-  keeps : (kind : Kind) → kind ≢ Kinds.Document → FitsShift kind places first (length olds) news (slide_of (length now) s) → Keeps kind places (length olds) (length now) s
+  keeps : (kind : Kind) → kind ≢ Kinds.Document → FitsShift kind places first (length olds) news (slide_of (length now) s) → KindAdds kind places first (length olds) (length now) s
   keeps Kinds.Buckets other is = tt
   keeps Kinds.Circle other is = (
     let a = is.1 in omega (arith, a, f.stood_is, f.kept, f.fresh_in),
     λ lt. let e = is.2 (omega (arith, lt, f.stood_is)) in omega (arith, e, f.stood_is, f.kept, f.fresh_in),
   )
-  keeps Kinds.Growing other is = (let e = is.1 in omega (arith, e, f.stood_is), is.2)
+  keeps Kinds.Growing other is = (let e = is.1 in omega (arith, e, f.stood_is), is.2, is.3)
   keeps Kinds.Document other is = absurd (other refl)
 
-  fits_by : (kind : Kind) → Keeps kind places (length olds) (length now) s → IsSlideOf first (length olds) news (s.accepted - length now) (s.stood - (length now - s.fresh)) s.late s.fresh → FitsShift kind places first (length olds) news (slide_of (length now) s)
+  fits_by : (kind : Kind) → KindAdds kind places first (length olds) (length now) s → IsSlideOf first (length olds) news (s.accepted - length now) (s.stood - (length now - s.fresh)) s.late s.fresh → FitsShift kind places first (length olds) news (slide_of (length now) s)
   fits_by Kinds.Buckets k is = is
   fits_by Kinds.Circle k is = (
     is,
     let a = k.0 in omega (arith, a, f.stood_is, f.kept, f.fresh_in),
     λ lt. let e = k.1 (omega (arith, lt, f.stood_is, f.kept)) in omega (arith, e, f.stood_is, f.kept, f.fresh_in),
   )
-  fits_by Kinds.Growing k is = (is, let a = k.0 in omega (arith, a, f.stood_is), k.1)
+  fits_by Kinds.Growing k is = (is, let a = k.0 in omega (arith, a, f.stood_is), k.1, k.2)
   fits_by Kinds.Document k is = absurd k
 
 -- what a window's shift is known to be says how the window leads on
@@ -178,7 +185,7 @@ module _ (first : ℕ) (olds : List Leaf) (w : WindowView) (other : w.window.kin
   slides = by_slide w.window.kind (length now) w.slid w.splice other
 
   -- buckets that lead on are as their slide says, and back
-  pub since_follows : IsSince first olds w → Follows [] first olds now w.slid × Keeps w.window.kind w.window.places (length olds) (length now) w.slid
+  pub since_follows : IsSince first olds w → Follows [] first olds now w.slid × KindAdds w.window.kind w.window.places first (length olds) (length now) w.slid
   since_follows since =
       let s : Slid = w.slid in
       let leads = subst (λ (t : Shift). now ≡ shifted t (brought [] t now) olds) slides since.leads in
@@ -188,7 +195,7 @@ module _ (first : ℕ) (olds : List Leaf) (w : WindowView) (other : w.window.kin
       let f = follows_slide [] first olds now s since.stood (since.counted other) leads is in
       (f, keeps first olds now s w.window.places news f w.window.kind other fits)
 
-  pub follows_since : Follows [] first olds now w.slid → Keeps w.window.kind w.window.places (length olds) (length now) w.slid → IsSince first olds w
+  pub follows_since : Follows [] first olds now w.slid → KindAdds w.window.kind w.window.places first (length olds) (length now) w.slid → IsSince first olds w
   follows_since f k =
       let s : Slid = w.slid in
       since_by first olds w (slide_of (length now) s) slides (slide_leads [] first olds now s f)

@@ -1,6 +1,6 @@
 -- How a window leads on after a command, after a run, and at its beginning.
 use Rattle.std.proofs.Common.{◌≡◌, ◌≢◌, ℕ, zero, suc, ◌+◌, ◌-◌, ◌<◌, ◌≤◌, Bool, true, false, List, [], ◌∷◌, ◌++◌, length, take, drop, get_or, refl, sym, ap, ◌∙◌, subst, arith, length-drop}
-use Rattle.std.specs.Prelude.{All, min, nat_lt, nat_le, if◌then◌else◌, slice_set, Ok, Option}
+use Rattle.std.specs.Prelude.{All, min, nat_lt, if◌then◌else◌, slice_set, Ok, Err, Option, Result}
 use Rattle.std.specs.declared.option.Option.TheVariants.{Some, None}
 use Rattle.std.proofs.lemmas.Bool.Decides.{nat_tests}
 use Rattle.std.proofs.lemmas.List.{length-append}
@@ -14,18 +14,21 @@ use Rattle.record_text.specs.declared.shift.Shift.{Shift}
 use Rattle.record_text.specs.declared.shift.Shift.TheVariants.{Slide, Splice}
 use Rattle.window_manager.specs.Windows.{Leaf, WindowState, asks_too_many, brought, first_refused, has_command, is_large, refusal_of, window_after, with_late, with_leaf}
 use Rattle.window_manager.specs.Slides.{Slid, late_after, lowered, not_slid, slid_after, slid_anew, with_place}
-use Rattle.window_manager.specs.Splices.{Leads, splice_after}
-use Rattle.window_manager.specs.Views.{IsDone, WindowView, no_leaves, shift_of, view_anew}
-use Rattle.window_manager.specs.Since.{IsSince, SinceAnew, SinceNew, SinceOn}
+use Rattle.window_manager.specs.Buckets.{Applied, BucketView, buckets_anew}
+use Rattle.window_manager.specs.Splices.{DocumentView, Edits, Leads, document_anew, splice_after}
+use Rattle.window_manager.specs.Views.{Done, FitsKind, IsDone, WindowView, no_leaves, shift_of, view_anew, view_of}
+use Rattle.window_manager.specs.Since.{IsSince, LeadsOn, SinceAnew, SinceNew, SinceOn}
 use Rattle.window_manager.specs.declared.fault.WindowFault.{WindowFault}
-use Rattle.window_manager.specs.declared.fault.WindowFault.TheVariants.{NotHere, TooMany}
+use Rattle.window_manager.specs.declared.fault.WindowFault.TheVariants.{NotHere, TooMany, BadRecord, WindowLarge, Mem}
+use Rattle.window_manager.specs.declared.content.Content.{Content}
+use Rattle.window_manager.specs.declared.content.Content.TheVariants.{OfBuckets, OfDocument}
 use Rattle.window_manager.proofs.BucketLaws.{IsOther, other_has}
 use Rattle.window_manager.proofs.DocumentLaws.{by_tests, not_none}
 use Rattle.window_manager.proofs.JoinLaws.{splices_join}
 use Rattle.window_manager.proofs.SlideLaws.{Follows, dropped, pushed, follows_drop, follows_fresh, follows_late, follows_push}
-use Rattle.window_manager.proofs.SinceLaws.{Keeps, follows_since, slides, led_since, since_follows, since_led}
+use Rattle.window_manager.proofs.SinceLaws.{KindAdds, follows_since, slides, led_since, since_follows, since_led}
 use Rattle.window_manager.proofs.TextLaws.{count_late, late_nothing}
-use Rattle.window_manager.proofs.ViewLaws.{has, not_true}
+use Rattle.window_manager.proofs.ViewLaws.{done_buckets, done_document, has, not_true}
 
 few_if : (h m : Bool) (r : Option ℕ) (l : Bool) → by_tests h m r l ≡ None → m ≡ false
 few_if false m r l e = absurd (not_none NotHere (sym e))
@@ -64,10 +67,10 @@ with_leaf_drops Kinds.Circle places leaves leaf =
     ap (λ (n : ℕ). drop n all) by
 
 -- a circle stays within its places, and lets one go only where it is full
-keeps_push : (kind : Kind) (places old : ℕ) (leaves : List Leaf) (leaf : Leaf) (s : Slid) → s.fresh ≤ length leaves → Keeps kind places old (length leaves) s
-    → Keeps kind places old (length (with_leaf kind places leaves leaf)) (dropped (going kind places leaves leaf) (length (with_leaf kind places leaves leaf)) (pushed s))
-keeps_push Kinds.Buckets places old leaves leaf s le k = tt
-keeps_push Kinds.Circle places old leaves leaf s le k =
+keeps_push : (kind : Kind) (places first old : ℕ) (leaves : List Leaf) (leaf : Leaf) (s : Slid) → s.fresh ≤ length leaves → length leaves ≤ s.accepted → KindAdds kind places first old (length leaves) s
+    → KindAdds kind places first old (length (with_leaf kind places leaves leaf)) (dropped (going kind places leaves leaf) (length (with_leaf kind places leaves leaf)) (pushed s))
+keeps_push Kinds.Buckets places first old leaves leaf s le counted k = tt
+keeps_push Kinds.Circle places first old leaves leaf s le counted k =
     let all : List Leaf = leaves ++ leaf ∷ [] in
     let n : length (drop (length all - places) all) ≡ min (length leaves + 1) places = omega (arith, one_more leaves leaf, length-drop (length all - places) all) in (
       omega (arith, n),
@@ -80,11 +83,12 @@ keeps_push Kinds.Circle places old leaves leaf s le k =
         let full : count ≡ places = k.1 (omega (arith, n, le, room, lt)) in
         absurd (omega (arith, room, full))
     keeps_full false places old count s next is n le k lt = let full : places ≤ count = grind (arith, nat_tests) in omega (arith, full, n)
-keeps_push Kinds.Growing places old leaves leaf s le k = (
+keeps_push Kinds.Growing places first old leaves leaf s le counted k = (
   let a = k.0 in omega (arith, one_more leaves leaf, le, a),
   ap (lowered (length leaves + 1 - length (leaves ++ leaf ∷ []))) k.1,
+  let e = k.2 in omega (arith, one_more leaves leaf, counted, e),
 )
-keeps_push Kinds.Document places old leaves leaf s le k = absurd k
+keeps_push Kinds.Document places first old leaves leaf s le counted k = absurd k
 
 -- records come to a bucket
 late_put : (place : ℕ) (more : List (List ℕ)) (leaves : List Leaf) → with_late place more leaves ≡ slice_set leaves place (get_or leaves place [] ++ more)
@@ -92,14 +96,14 @@ late_put place more [] = refl
 late_put zero more (leaf ∷ leaves) = refl
 late_put (suc place) more (leaf ∷ leaves) = ap (λ (ls : List Leaf). leaf ∷ ls) (late_put place more leaves)
 
-keeps_late : (kind : Kind) (places old count next : ℕ) (s : Slid) (late : List ℕ) → has_command kind (Late 0 []) ≡ true → next ≡ count → Keeps kind places old count s → Keeps kind places old next (record { accepted = s.accepted; stood = s.stood; fresh = s.fresh; late = late })
-keeps_late Kinds.Buckets places old count next s late here n k = tt
-keeps_late Kinds.Circle places old count next s late here n k = (
+keeps_late : (kind : Kind) (places first old count next : ℕ) (s : Slid) (late : List ℕ) → has_command kind (Late 0 []) ≡ true → next ≡ count → KindAdds kind places first old count s → KindAdds kind places first old next (record { accepted = s.accepted; stood = s.stood; fresh = s.fresh; late = late })
+keeps_late Kinds.Buckets places first old count next s late here n k = tt
+keeps_late Kinds.Circle places first old count next s late here n k = (
   let a = k.0 in omega (arith, n, a),
   λ lt. let e = k.1 (omega (arith, n, lt)) in omega (arith, n, e),
 )
-keeps_late Kinds.Growing places old count next s late here n k = not_true here
-keeps_late Kinds.Document places old count next s late here n k = absurd k
+keeps_late Kinds.Growing places first old count next s late here n k = not_true here
+keeps_late Kinds.Document places first old count next s late here n k = absurd k
 
 late_here : (kind : Kind) (place : ℕ) (more : List (List ℕ)) → has_command kind (Late place more) ≡ true → has_command kind (Late 0 []) ≡ true
 late_here Kinds.Buckets place more here = refl
@@ -107,11 +111,11 @@ late_here Kinds.Circle place more here = refl
 late_here Kinds.Growing place more here = not_true here
 late_here Kinds.Document place more here = not_true here
 
-keeps_drop : (kind : Kind) (places old count next n : ℕ) (s t : Slid) → has_command kind (Drop n) ≡ true → Keeps kind places old count s → Keeps kind places old next t
-keeps_drop Kinds.Buckets places old count next n s t here k = tt
-keeps_drop Kinds.Circle places old count next n s t here k = not_true here
-keeps_drop Kinds.Growing places old count next n s t here k = not_true here
-keeps_drop Kinds.Document places old count next n s t here k = absurd k
+keeps_drop : (kind : Kind) (places first old count next n : ℕ) (s t : Slid) → has_command kind (Drop n) ≡ true → KindAdds kind places first old count s → KindAdds kind places first old next t
+keeps_drop Kinds.Buckets places first old count next n s t here k = tt
+keeps_drop Kinds.Circle places first old count next n s t here k = not_true here
+keeps_drop Kinds.Growing places first old count next n s t here k = not_true here
+keeps_drop Kinds.Document places first old count next n s t here k = absurd k
 
 not_more : (n m : ℕ) → nat_lt n m ≡ false → m ≤ n
 not_more n m is = grind (arith, nat_tests)
@@ -131,7 +135,7 @@ module _ (first : ℕ) (olds : List Leaf) (w : WindowState) (s : Slid) (f : Foll
       (follows_fresh [] first olds w.leaves s f place (get_or w.leaves place [] ++ more) (not_more place (length w.leaves - s.fresh) is))
 
   abbrev OnAfter : Command → Type 0
-  OnAfter c = Follows [] first olds (window_after w c).leaves (slid_after w c s) × Keeps w.kind w.places (length olds) (length (window_after w c).leaves) (slid_after w c s)
+  OnAfter c = Follows [] first olds (window_after w c).leaves (slid_after w c s) × KindAdds w.kind w.places first (length olds) (length (window_after w c).leaves) (slid_after w c s)
 
   late_on : (place : ℕ) (more : List (List ℕ)) → Follows [] first olds (with_late place more w.leaves) (record { accepted = s.accepted; stood = s.stood; fresh = s.fresh; late = late_after (length w.leaves - s.fresh) place more s.late })
   late_on place [] = subst (λ (l : List Leaf). Follows [] first olds l s) (sym (late_nothing place w.leaves)) f
@@ -147,15 +151,15 @@ module _ (first : ℕ) (olds : List Leaf) (w : WindowState) (s : Slid) (f : Foll
   drop_on : (n : ℕ) → n ≤ length w.leaves → Follows [] first olds (window_after w (Drop n)).leaves (slid_after w (Drop n) s)
   drop_on n within = subst (λ (m : ℕ). Follows [] first olds (drop n w.leaves) (dropped n m s)) (length-drop n w.leaves) (follows_drop [] first olds w.leaves s f n within)
 
-  pub buckets_on : w.kind ≢ Kinds.Document → Keeps w.kind w.places (length olds) (length w.leaves) s → (c : Command) → has_command w.kind c ≡ true → asks_too_many w c ≡ false → OnAfter c
-  buckets_on other k (Bucket leaf) here few = (bucket_on leaf, keeps_push w.kind w.places (length olds) w.leaves leaf s f.fresh_in k)
+  pub buckets_on : w.kind ≢ Kinds.Document → KindAdds w.kind w.places first (length olds) (length w.leaves) s → (c : Command) → has_command w.kind c ≡ true → asks_too_many w c ≡ false → OnAfter c
+  buckets_on other k (Bucket leaf) here few = (bucket_on leaf, keeps_push w.kind w.places first (length olds) w.leaves leaf s f.fresh_in f.counted k)
   buckets_on other k (Drop n) here few = (
     drop_on n (not_more (length w.leaves) n few),
-    keeps_drop w.kind w.places (length olds) (length w.leaves) (length (drop n w.leaves)) n s (slid_after w (Drop n) s) here k,
+    keeps_drop w.kind w.places first (length olds) (length w.leaves) (length (drop n w.leaves)) n s (slid_after w (Drop n) s) here k,
   )
   buckets_on other k (Late place more) here few = (
     late_on place more,
-    keeps_late w.kind w.places (length olds) (length w.leaves) (length (with_late place more w.leaves)) s (late_after (length w.leaves - s.fresh) place more s.late) (late_here w.kind place more here) (count_late place more w.leaves) k,
+    keeps_late w.kind w.places first (length olds) (length w.leaves) (length (with_late place more w.leaves)) s (late_after (length w.leaves - s.fresh) place more s.late) (late_here w.kind place more here) (count_late place more w.leaves) k,
   )
   buckets_on other k (File name) here few = not_true (sym (other_has w.kind (File name) other tt) ∙ here)
   buckets_on other k (Remove name) here few = not_true (sym (other_has w.kind (Remove name) other tt) ∙ here)
@@ -203,12 +207,12 @@ module _ (accepts : List ℕ → Bool) (first : ℕ) (olds : List Leaf) (old new
       let was = since_follows first olds old other since in
       let on = buckets_on first olds old.window old.slid was.0 other was.1 c (has accepts old.window c none) (few accepts old.window c none) in
       let follows = subst (λ (t : Slid). Follows [] first olds new.window.leaves t) (sym is.slid)
-        (subst (λ (l : List Leaf). Follows [] first olds l (slid_after old.window c old.slid)) (sym (ap (λ (w : WindowState). w.leaves) is.window)) on.0)
+      (subst (λ (l : List Leaf). Follows [] first olds l (slid_after old.window c old.slid)) (sym (ap (λ (w : WindowState). w.leaves) is.window)) on.0)
       in
-      let kept = subst (λ (t : Slid). Keeps new.window.kind new.window.places (length olds) (length new.window.leaves) t) (sym is.slid)
-        (subst (λ (w : WindowState). Keeps w.kind w.places (length olds) (length w.leaves) (slid_after old.window c old.slid)) (sym is.window)
-        (subst (λ (k : Kind). Keeps k (window_after old.window c).places (length olds) (length (window_after old.window c).leaves) (slid_after old.window c old.slid)) (sym (kind_stays old.window c))
-        (subst (λ (p : ℕ). Keeps old.window.kind p (length olds) (length (window_after old.window c).leaves) (slid_after old.window c old.slid)) (sym (places_stay old.window c)) on.1)))
+      let kept = subst (λ (t : Slid). KindAdds new.window.kind new.window.places first (length olds) (length new.window.leaves) t) (sym is.slid)
+      (subst (λ (w : WindowState). KindAdds w.kind w.places first (length olds) (length w.leaves) (slid_after old.window c old.slid)) (sym is.window)
+      (subst (λ (k : Kind). KindAdds k (window_after old.window c).places first (length olds) (length (window_after old.window c).leaves) (slid_after old.window c old.slid)) (sym (kind_stays old.window c))
+      (subst (λ (p : ℕ). KindAdds old.window.kind p first (length olds) (length (window_after old.window c).leaves) (slid_after old.window c old.slid)) (sym (places_stay old.window c)) on.1)))
       in
       follows_since first olds new (λ e. other (sym kind_is ∙ e)) follows kept
 
@@ -217,7 +221,7 @@ module _ (accepts : List ℕ → Bool) (first : ℕ) (olds : List Leaf) (old new
       let was = since_led first olds old document since in
       let leads = splices_join olds old.window.leaves new.window.leaves old.splice is.change was (is.spliced document) in
       let splice : new.splice ≡ splice_after (length olds) (length old.window.leaves) (length new.window.leaves) old.splice is.change =
-        is.splice ∙ ap (λ (n : ℕ). splice_after n (length old.window.leaves) (length new.window.leaves) old.splice is.change) since.stood
+      is.splice ∙ ap (λ (n : ℕ). splice_after n (length old.window.leaves) (length new.window.leaves) old.splice is.change) since.stood
       in
       led_since first olds new (kind_is ∙ document) (subst (λ (t : Shift). Leads olds new.window.leaves t) (sym splice) leads)
       (ap (λ (t : Slid). t.stood) is.slid ∙ stood_stays old.window c old.slid ∙ since.stood)
@@ -249,11 +253,11 @@ module _ (now : List Leaf) (s : Slid) where
     same = λ i lt out. let at : i ≡ length now - (length now - 0) + i = omega arith in ap (λ (n : ℕ). get_or now n []) at;
   }
 
-  keeps_anew : (kind : Kind) (places old : ℕ) → Keeps kind places old (length now) s → Keeps kind places (length now) (length now) (slid_anew (length now) s)
-  keeps_anew Kinds.Buckets places old k = tt
-  keeps_anew Kinds.Circle places old k = (k.0, λ lt. absurd (omega (arith, lt)))
-  keeps_anew Kinds.Growing places old k = (omega arith, refl)
-  keeps_anew Kinds.Document places old k = absurd k
+  keeps_anew : (kind : Kind) (places first old : ℕ) → KindAdds kind places first old (length now) s → KindAdds kind places (s.accepted - length now) (length now) (length now) (slid_anew (length now) s)
+  keeps_anew Kinds.Buckets places first old k = tt
+  keeps_anew Kinds.Circle places first old k = (k.0, λ lt. absurd (omega (arith, lt)))
+  keeps_anew Kinds.Growing places first old k = (omega arith, refl, refl)
+  keeps_anew Kinds.Document places first old k = absurd k
 
 same_leaves : (leaves : List Leaf) → IsSplice leaves leaves (record { first = 0; gone = 0; fresh = 0 })
 same_leaves leaves = record { within = omega arith; fits = omega arith; before = refl; behind = refl }
@@ -265,7 +269,7 @@ module _ (first : ℕ) (olds : List Leaf) (w : WindowView) (since : IsSince firs
       let number : first_after (shift_of w) first ≡ w.slid.accepted - length w.window.leaves = ap (λ (t : Shift). first_after t first) (slides first olds w other) in
       subst (λ (n : ℕ). IsSince n w.window.leaves (view_anew w)) (sym number)
       (follows_since (w.slid.accepted - length w.window.leaves) w.window.leaves (view_anew w) other (anew w.window.leaves w.slid was.0.counted)
-      (keeps_anew w.window.leaves w.slid w.window.kind w.window.places (length olds) was.1))
+      (keeps_anew w.window.leaves w.slid w.window.kind w.window.places first (length olds) was.1))
 
   anew_by : (kind : Kind) → w.window.kind ≡ kind → IsSince (first_after (shift_of w) first) w.window.leaves (view_anew w)
   anew_by Kinds.Document e = led_since (first_after (shift_of w) first) w.window.leaves (view_anew w) e (same_leaves w.window.leaves) refl
@@ -280,4 +284,47 @@ pub since_new : SinceNew
 since_new Kinds.Document places = led_since 0 [] (no_leaves Kinds.Document places) refl (same_leaves []) refl
 since_new Kinds.Buckets places = follows_since 0 [] (no_leaves Kinds.Buckets places) (λ d. not_document Kinds.Buckets d tt) (anew [] not_slid (omega arith)) tt
 since_new Kinds.Circle places = follows_since 0 [] (no_leaves Kinds.Circle places) (λ d. not_document Kinds.Circle d tt) (anew [] not_slid (omega arith)) (omega arith, λ lt. absurd (omega (arith, lt)))
-since_new Kinds.Growing places = follows_since 0 [] (no_leaves Kinds.Growing places) (λ d. not_document Kinds.Growing d tt) (anew [] not_slid (omega arith)) (omega arith, refl)
+since_new Kinds.Growing places = follows_since 0 [] (no_leaves Kinds.Growing places) (λ d. not_document Kinds.Growing d tt) (anew [] not_slid (omega arith)) (omega arith, refl, refl)
+
+-- a window leads on through its calls
+leads_anew : (w : WindowView) → LeadsOn w → LeadsOn (view_anew w)
+leads_anew w leads = (first_after (shift_of w) leads.0, w.window.leaves, since_anew leads.0 leads.1 w leads.2)
+
+-- a window keeps its kind, and leads on, whatever a command answers
+abbrev pub StaysLed : WindowView → WindowView → Type 0
+StaysLed old new = (new.window.kind ≡ old.window.kind) × LeadsOn new
+
+same_kept : (old new : WindowView) → LeadsOn old → new ≡ old → StaysLed old new
+same_kept old new leads is = (ap (λ (w : WindowView). w.window.kind) is, subst LeadsOn (sym is) leads)
+
+done_kept : (accepts : List ℕ → Bool) (c : Command) (old new : WindowView) (result : Result (Unit {0}) WindowFault) → LeadsOn old → Done (refusal_of accepts old.window c) old new c result → StaysLed old new
+done_kept accepts c old new (Ok t) leads done = (
+  ap (λ (w : WindowState). w.kind) done.1.window ∙ kind_stays old.window c,
+  (leads.0, leads.1, since_on accepts leads.0 leads.1 old new c leads.2 done),
+)
+done_kept accepts c old new (Err NotHere) leads done = same_kept old new leads done.1
+done_kept accepts c old new (Err TooMany) leads done = same_kept old new leads done.1
+done_kept accepts c old new (Err (BadRecord i)) leads done = same_kept old new leads done.1
+done_kept accepts c old new (Err WindowLarge) leads done = same_kept old new leads done.1
+done_kept accepts c old new (Err Mem) leads done = same_kept old new leads done.1
+
+-- what holds of a window of any kind, by what it is made of
+abbrev pub IsLed : Content → Type 0
+IsLed content = FitsKind content × LeadsOn (view_of content)
+
+module _ (accepts : List ℕ → Bool) (c : Command) (result : Result (Unit {0}) WindowFault) where
+  pub buckets_kept : (old new : BucketView) → IsLed (OfBuckets old) → Applied accepts old new c result → IsLed (OfBuckets new)
+  buckets_kept old new is applied =
+      let kept = done_kept accepts c (view_of (OfBuckets old)) (view_of (OfBuckets new)) result is.1 (done_buckets accepts c old new result is.0 applied) in
+      (λ document. is.0 (sym kept.0 ∙ document), kept.1)
+
+  pub document_kept : (old new : DocumentView) → IsLed (OfDocument old) → Edits (refusal_of accepts old.window c) old new c result → IsLed (OfDocument new)
+  document_kept old new is edits =
+      let kept = done_kept accepts c (view_of (OfDocument old)) (view_of (OfDocument new)) result is.1 (done_document accepts c old new result is.0 edits) in
+      (kept.0 ∙ is.0, kept.1)
+
+pub buckets_anewed : (old new : BucketView) → new ≡ buckets_anew old → IsLed (OfBuckets old) → IsLed (OfBuckets new)
+buckets_anewed old new is kept = subst (λ (b : BucketView). IsLed (OfBuckets b)) (sym is) (kept.0, leads_anew (view_of (OfBuckets old)) kept.1)
+
+pub document_anewed : (old new : DocumentView) → new ≡ document_anew old → IsLed (OfDocument old) → IsLed (OfDocument new)
+document_anewed old new is kept = subst (λ (d : DocumentView). IsLed (OfDocument d)) (sym is) (kept.0, leads_anew (view_of (OfDocument old)) kept.1)

@@ -93,12 +93,12 @@ rising_cons x xs above r (suc k) h =
     let e : suc (k + 1) ≡ suc k + 1 = omega arith in
     subst (λ (n : ℕ). get_or xs k 0 < get_or (x ∷ xs) n 0) e (r k (omega (arith, h)))
 
-rising_tail : (x : ℕ) (xs : List ℕ) → IsStrictlyIncreasing (x ∷ xs) → IsStrictlyIncreasing xs
+pub rising_tail : (x : ℕ) (xs : List ℕ) → IsStrictlyIncreasing (x ∷ xs) → IsStrictlyIncreasing xs
 rising_tail x xs r k h =
     let e : suc k + 1 ≡ suc (k + 1) = omega arith in
     subst (λ (n : ℕ). get_or (x ∷ xs) (suc k) 0 < get_or (x ∷ xs) n 0) e (r (suc k) (omega (arith, h)))
 
-rising_head : (x : ℕ) (xs : List ℕ) → IsStrictlyIncreasing (x ∷ xs) → All (λ y. x < y) xs
+pub rising_head : (x : ℕ) (xs : List ℕ) → IsStrictlyIncreasing (x ∷ xs) → All (λ y. x < y) xs
 rising_head x [] r = λ k d h. absurd (omega (arith, h))
 rising_head x (y ∷ ys) r =
     let first : x < y = r 0 (omega arith) in

@@ -28,7 +28,7 @@ size_one l = ap (λ (rs : List (List ℕ)). length (text_of rs)) (append-nil l)
 pub size_cut : (n : ℕ) (leaves : List Leaf) → text_size (take n leaves) + text_size (drop n leaves) ≡ text_size leaves
 size_cut n leaves = sym (size_append (take n leaves) (drop n leaves)) ∙ ap text_size (take-append-drop n leaves)
 
--- one leaf more in front
+-- one leaf more among the first
 pub size_front : (leaves : List Leaf) (i : ℕ) (leaf : Leaf) → i < length leaves → leaf ≡ get_or leaves i leaf → text_size (take (i + 1) leaves) ≡ text_size (take i leaves) + length (text_of leaf)
 size_front leaves i leaf lt is =
     ap text_size (take_more leaves i leaf lt) ∙ size_append (take i leaves) (get_or leaves i leaf ∷ [])

@@ -13,8 +13,8 @@ use Rattle.window_manager.specs.Splices.{DocumentView, Edits, IsChangeOf}
 use Rattle.window_manager.specs.Views.{Done, WindowView, view_of}
 use Rattle.window_manager.specs.declared.fault.WindowFault.{WindowFault}
 use Rattle.window_manager.specs.declared.fault.WindowFault.TheVariants.{NotHere, TooMany, BadRecord, WindowLarge, Mem}
-use Rattle.window_manager.specs.declared.held.Held.{Held}
-use Rattle.window_manager.specs.declared.held.Held.TheVariants.{OfBuckets, OfDocument}
+use Rattle.window_manager.specs.declared.content.Content.{Content}
+use Rattle.window_manager.specs.declared.content.Content.TheVariants.{OfBuckets, OfDocument}
 use Rattle.window_manager.proofs.DocumentLaws.{by_tests, not_none, IsTrueTest}
 
 has_if : (h m : Bool) (r : Option ℕ) (l : Bool) → by_tests h m r l ≡ None → h ≡ true
@@ -96,8 +96,8 @@ module _ (accepts : List ℕ → Bool) (c : Command) where
   done_document old new (Err Mem) is a = (a.0, ap (λ (v : DocumentView). view_of (OfDocument v)) a.1)
 
   -- the window that holds these is seen as they are
-  pub seen_as : (before after : Held) (old : WindowView) (result given : Result (Unit {0}) WindowFault) (next : Held) → view_of before ≡ old → next ≡ after → result ≡ given → Done (refusal_of accepts (view_of before).window c) (view_of before) (view_of after) c given → Done (refusal_of accepts old.window c) old (view_of next) c result
+  pub seen_as : (before after : Content) (old : WindowView) (result given : Result (Unit {0}) WindowFault) (next : Content) → view_of before ≡ old → next ≡ after → result ≡ given → Done (refusal_of accepts (view_of before).window c) (view_of before) (view_of after) c given → Done (refusal_of accepts old.window c) old (view_of next) c result
   seen_as before after old result given next was is same done =
       subst (λ (v : WindowView). Done (refusal_of accepts v.window c) v (view_of next) c result) was
-      (subst (λ (h : Held). Done (refusal_of accepts (view_of before).window c) (view_of before) (view_of h) c result) (sym is)
+      (subst (λ (h : Content). Done (refusal_of accepts (view_of before).window c) (view_of before) (view_of h) c result) (sym is)
       (subst (λ (r : Result (Unit {0}) WindowFault). Done (refusal_of accepts (view_of before).window c) (view_of before) (view_of after) c r) (sym same) done))

@@ -1,6 +1,7 @@
 -- A window of buckets, and what its calls promise.
 use Rattle.std.specs.Prelude.{◌≡◌, ◌≢◌, ℕ, ◌≤◌, Bool, true, false, ◌&&◌, nat_le, if◌then◌else◌, List, length, Result, Ok, Err}
 use Rattle.std.specs.declared.option.Option.TheVariants.{Some, None}
+use Rattle.definitions.specs.Limits.{most_buckets, most_places, most_text}
 pub use Rattle.chunk_store.specs.Documents.{text_size}
 use Rattle.record_text.specs.declared.kind.Kind.{Kind}
 use Rattle.record_text.specs.declared.kind.Kind.TheVariants as Kinds
@@ -28,7 +29,7 @@ buckets_after v c = record { window = window_after v.window c; slid = slid_after
 abbrev pub buckets_anew : BucketView → BucketView
 buckets_anew v = record { window = v.window; slid = slid_anew (length v.window.leaves) v.slid }
 
--- How many leaves leave at the front where a new one comes: the oldest of a circle that is full.
+-- How many leaves go where a new one comes: the oldest of a circle that is full.
 abbrev pub leaving : Kind → ℕ → ℕ → ℕ
 leaving kind places count = if is_circle kind && nat_le places count then 1 else 0
 
@@ -36,9 +37,9 @@ leaving kind places count = if is_circle kind && nat_le places count then 1 else
 pub record IsOfBuckets (w : WindowState) : Type 0 where
   pub buckets : w.kind ≢ Kinds.Document
   pub some : 1 ≤ w.places
-  pub few : w.places ≤ 4096
-  pub small : text_size w.leaves ≤ 268435456
-  pub count : length w.leaves ≤ 65536
+  pub few : w.places ≤ most_places
+  pub small : text_size w.leaves ≤ most_text
+  pub count : length w.leaves ≤ most_buckets
   pub circle : w.kind ≡ Kinds.Circle → length w.leaves ≤ w.places
 
 -- What is kept beside the buckets: the size of their text, and how they changed.

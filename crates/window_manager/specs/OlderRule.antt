@@ -2,6 +2,7 @@
 -- not of it.
 use Rattle.std.specs.Prelude.{◌≡◌, ℕ, ◌+◌, Bool, true, false, not, ◌&&◌, nat_le, nat_lt, if◌then◌else◌, List, [], ◌∷◌, length, drop, All, Result, Ok, Err, Option}
 use Rattle.std.specs.declared.option.Option.TheVariants.{Some, None}
+use Rattle.definitions.specs.Limits.{most_buckets, most_text}
 use Rattle.definitions.specs.Records.{text_of}
 use Rattle.marker_chunker.specs.Cuts.{chunks_of, joined}
 use Rattle.chunk_store.specs.Documents.{spliced}
@@ -46,7 +47,7 @@ older_has kind command = false
 
 -- Whether a command asks for more than there is, or than there may be.
 abbrev pub older_asks_too_many : OlderState → Command → Bool
-older_asks_too_many w (Bucket records) = not (is_circle w.kind) && nat_le 65536 (length w.leaves)
+older_asks_too_many w (Bucket records) = not (is_circle w.kind) && nat_le most_buckets (length w.leaves)
 older_asks_too_many w (Drop n) = nat_lt (length w.leaves) n
 older_asks_too_many w (Late place more) = nat_le (length w.leaves) place
 older_asks_too_many w (Edit at del ins) = nat_lt (length (joined w.leaves)) (at + del)
@@ -57,7 +58,7 @@ abbrev pub older_refusal : (List ℕ → Bool) → OlderState → Command → Op
 older_refusal accepts w c =
     if not (older_has w.kind c) then Some NotHere
     else if older_asks_too_many w c then Some TooMany
-    else record_refusal (first_refused accepts (brought c)) (nat_lt 268435456 (length (text_of (joined (older_leaves w c)))))
+    else record_refusal (first_refused accepts (brought c)) (nat_lt most_text (length (text_of (joined (older_leaves w c)))))
 
 -- How it goes on behind a command, where it is not refused.
 abbrev pub unless_refused : Option WindowFault → Result (List Leaf) WindowFault → Result (List Leaf) WindowFault

@@ -1,9 +1,11 @@
 -- How a window leads on from the leaves of an earlier run: what the engine rests on.
-use Rattle.std.specs.Prelude.{◌≡◌, ◌≢◌, ℕ, ◌≤◌, Bool, List, [], length, Ok}
-use Rattle.record_text.specs.Shifts.{brought, first_after, shifted, FitsShift}
+use Rattle.std.specs.Prelude.{◌≡◌, ◌≢◌, ℕ, ◌+◌, ◌≤◌, Bool, List, [], length, Ok}
+use Rattle.std.specs.List.{sum_by}
+use Rattle.record_text.specs.Shifts.{brought, first_after, left, shifted, FitsShift}
 use Rattle.record_text.specs.declared.command.Command.{Command}
 use Rattle.record_text.specs.declared.kind.Kind.{Kind}
 use Rattle.record_text.specs.declared.kind.Kind.TheVariants as Kinds
+use Rattle.record_text.specs.declared.shift.Shift.{Shift}
 use Rattle.window_manager.specs.Windows.{Leaf, refusal_of}
 use Rattle.window_manager.specs.Views.{Done, WindowView, no_leaves, shift_of, view_anew}
 
@@ -19,6 +21,10 @@ pub record IsSince (first : ℕ) (leaves : List Leaf) (w : WindowView) : Type 0 
   pub stood : w.slid.stood ≡ length leaves
   pub counted : w.window.kind ≢ Kinds.Document → length w.window.leaves ≤ w.slid.accepted
 
+-- What holds of every window: it leads on from some leaves.
+abbrev pub LeadsOn : WindowView → Type 0
+LeadsOn w = (first : ℕ) × (leaves : List Leaf) × IsSince first leaves w
+
 -- Before the first command a window leads on from no leaves.
 abbrev pub SinceNew : Type 0
 SinceNew = (kind : Kind) (places : ℕ) → IsSince 0 [] (no_leaves kind places)
@@ -30,3 +36,8 @@ SinceAnew = (first : ℕ) (leaves : List Leaf) (w : WindowView) → IsSince firs
 -- After a command that it carried out it leads on from the same leaves.
 abbrev pub SinceOn : Type 0
 SinceOn = (accepts : List ℕ → Bool) (first : ℕ) (leaves : List Leaf) (old new : WindowView) (c : Command) → IsSince first leaves old → Done (refusal_of accepts old.window c) old new c (Ok tt) → IsSince first leaves new
+
+-- Whatever leaves weigh: what is there after a shift weighs, with what the shift takes away, as much as what was there
+-- before, with what it brings. So each text is there as often as these tell.
+abbrev pub ShiftBalances : Type 0
+ShiftBalances = (weight : Leaf → ℕ) (kind : Kind) (places first : ℕ) (news olds : List Leaf) (shift : Shift) → FitsShift kind places first (length olds) (length news) shift → sum_by weight (shifted shift news olds) + sum_by weight (left [] shift olds) ≡ sum_by weight olds + sum_by weight news

@@ -1,6 +1,7 @@
 -- How the buckets of a window changed since its last run.
 use Rattle.std.specs.Prelude.{◌≡◌, ℕ, ◌+◌, ◌-◌, ◌<◌, ◌≤◌, nat_le, nat_lt, min, if◌then◌else◌, List, [], ◌∷◌, ◌++◌, length, map, All}
 use Rattle.std.specs.List.{filter}
+use Rattle.definitions.specs.Limits.{most_buckets}
 use Rattle.record_text.specs.declared.command.Command.{Command}
 use Rattle.record_text.specs.declared.command.Command.TheVariants.{Bucket, Drop, Late}
 use Rattle.record_text.specs.declared.shift.Shift.{Shift}
@@ -19,7 +20,7 @@ pub record Slid : Type 0 where
 abbrev pub not_slid : Slid
 not_slid = record { accepted = 0; stood = 0; fresh = 0; late = [] }
 
--- Places, once so many leaves left at the front.
+-- Places, once so many leaves left.
 abbrev pub lowered : ℕ → List ℕ → List ℕ
 lowered by places = map (λ p. p - by) (filter (λ p. nat_le by p) places)
 
@@ -57,11 +58,5 @@ slid_by (Splice first gone fresh) count = not_slid
 
 -- A shift of a window of so many buckets: the late places are of leaves that stood at the last run.
 abbrev pub FitsCount : Shift → ℕ → Type 0
-FitsCount (Slide first gone places fresh) count = (fresh ≤ count) × (gone + (count - fresh) ≤ 65536) × All (λ p. p < count - fresh) places
+FitsCount (Slide first gone places fresh) count = (fresh ≤ count) × (gone + (count - fresh) ≤ most_buckets) × All (λ p. p < count - fresh) places
 FitsCount (Splice first gone fresh) count = ⊥
-
--- The shift of a window of so many buckets, `stood` of which were there at the last run: what stayed, went and came adds
--- up, and the late places are of leaves that stayed.
-abbrev pub FitsSlide : ℕ → Shift → ℕ → Type 0
-FitsSlide stood (Slide first gone places fresh) count = (fresh ≤ count) × (stood ≡ gone + (count - fresh)) × All (λ p. p < count - fresh) places
-FitsSlide stood (Splice first gone fresh) count = ⊥

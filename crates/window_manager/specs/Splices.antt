@@ -16,7 +16,7 @@ use Rattle.window_manager.specs.Windows.{Leaf, WindowState, empty_window, window
 use Rattle.window_manager.specs.declared.fault.WindowFault.{WindowFault}
 use Rattle.window_manager.specs.declared.fault.WindowFault.TheVariants.{NotHere, TooMany, WindowLarge, Mem}
 
--- What lies between the leaves kept in front and those kept at the end, of `stood` old leaves and `count` new ones.
+-- What lies between the leaves kept before it and those kept behind it, of `stood` old leaves and `count` new ones.
 abbrev pub between : ℕ → ℕ → ℕ → ℕ → Shift
 between stood count first kept = Splice first (stood - kept - first) (count - kept - first)
 
@@ -55,7 +55,7 @@ no_document places = record { window = empty_window Kinds.Document places; stood
 abbrev pub document_anew : DocumentView → DocumentView
 document_anew v = record { window = v.window; stood = length v.window.leaves; splice = Splice 0 0 0 }
 
--- The leaves became others by this splice: those in front of it and those behind it are the ones that stood.
+-- The leaves became others by this splice: those before it and those behind it are the ones that stood.
 abbrev pub Leads : List Leaf → List Leaf → Shift → Type 0
 Leads olds news (Splice first gone fresh) = IsSplice olds news (record { first = first; gone = gone; fresh = fresh })
 Leads olds news (Slide first gone places fresh) = ⊥

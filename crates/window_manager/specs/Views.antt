@@ -9,12 +9,12 @@ use Rattle.record_text.specs.declared.kind.Kind.TheVariants as Kinds
 use Rattle.record_text.specs.declared.shift.Shift.{Shift}
 use Rattle.record_text.specs.declared.shift.Shift.TheVariants.{Splice}
 use Rattle.window_manager.specs.Windows.{WindowState, empty_window, window_after}
-use Rattle.window_manager.specs.Slides.{Slid, not_slid, slid_after, slid_anew, slide_of, FitsSlide}
-use Rattle.window_manager.specs.Splices.{IsChangeOf, splice_after, FitsSplice}
+use Rattle.window_manager.specs.Slides.{Slid, not_slid, slid_after, slid_anew, slide_of}
+use Rattle.window_manager.specs.Splices.{IsChangeOf, splice_after}
 use Rattle.window_manager.specs.declared.fault.WindowFault.{WindowFault}
 use Rattle.window_manager.specs.declared.fault.WindowFault.TheVariants.{Mem}
-use Rattle.window_manager.specs.declared.held.Held.{Held}
-use Rattle.window_manager.specs.declared.held.Held.TheVariants.{OfBuckets, OfDocument}
+use Rattle.window_manager.specs.declared.content.Content.{Content}
+use Rattle.window_manager.specs.declared.content.Content.TheVariants.{OfBuckets, OfDocument}
 
 -- A window: what it holds, what is known of its leaves since the last run, and of a document the splice since then.
 pub record WindowView : Type 0 where
@@ -39,11 +39,6 @@ abbrev pub shift_by : Kind → ℕ → Slid → Shift → Shift
 shift_by Kinds.Document count slid splice = splice
 shift_by kind count slid splice = slide_of count slid
 
--- The shift of a window of so many leaves, `stood` of which were there at the last run.
-abbrev pub FitsShift : Kind → ℕ → Shift → ℕ → Type 0
-FitsShift Kinds.Document stood shift count = FitsSplice stood shift count
-FitsShift kind stood shift count = FitsSlide stood shift count
-
 -- The shift of a window.
 abbrev pub shift_of : WindowView → Shift
 shift_of v = shift_by v.window.kind (length v.window.leaves) v.slid v.splice
@@ -64,11 +59,11 @@ Done refusal old new c (Err Mem) = (refusal ≡ None) × (new ≡ old)
 Done refusal old new c (Err fault) = (refusal ≡ Some fault) × (new ≡ old)
 
 -- What a window is seen as, by what it is made of.
-abbrev pub view_of : Held → WindowView
+abbrev pub view_of : Content → WindowView
 view_of (OfBuckets b) = record { window = b.window; slid = b.slid; splice = no_splice }
 view_of (OfDocument d) = record { window = d.window; slid = record { accepted = 0; stood = d.stood; fresh = 0; late = [] }; splice = d.splice }
 
 -- What it is made of fits its kind.
-abbrev pub FitsKind : Held → Type 0
+abbrev pub FitsKind : Content → Type 0
 FitsKind (OfBuckets b) = b.window.kind ≢ Kinds.Document
 FitsKind (OfDocument d) = d.window.kind ≡ Kinds.Document

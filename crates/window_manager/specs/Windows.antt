@@ -1,6 +1,7 @@
 -- Windows: what they hold, what a command makes of them, and what they refuse.
 use Rattle.std.specs.Prelude.{ℕ, zero, suc, ◌+◌, ◌-◌, Bool, true, false, not, ◌&&◌, ◌||◌, ◌==◌, nat_le, nat_lt, if◌then◌else◌, List, [], ◌∷◌, ◌++◌, length, drop, Option}
 use Rattle.std.specs.declared.option.Option.TheVariants.{Some, None}
+use Rattle.definitions.specs.Limits.{most_buckets, most_files, most_text}
 use Rattle.definitions.specs.Records.{text_of}
 use Rattle.marker_chunker.specs.Cuts.{chunks_of, joined}
 use Rattle.chunk_store.specs.Documents.{spliced}
@@ -92,11 +93,11 @@ is_circle kind = false
 
 -- Whether these records would make the current file one too many: it has none, and as many files as may have records.
 abbrev pub is_one_too_many : WindowState → List (List ℕ) → Bool
-is_one_too_many w records = (length (current_records w) == 0) && nat_lt 0 (length records) && nat_le 65536 (length w.files)
+is_one_too_many w records = (length (current_records w) == 0) && nat_lt 0 (length records) && nat_le most_files (length w.files)
 
 -- Whether a command asks for more than there is, or than there may be.
 abbrev pub asks_too_many : WindowState → Command → Bool
-asks_too_many w (Bucket records) = not (is_circle w.kind) && nat_le 65536 (length w.leaves)
+asks_too_many w (Bucket records) = not (is_circle w.kind) && nat_le most_buckets (length w.leaves)
 asks_too_many w (Drop n) = nat_lt (length w.leaves) n
 asks_too_many w (Late place more) = nat_le (length w.leaves) place
 asks_too_many w (Edit at del ins) = nat_lt (length (current_records w)) (at + del) || is_one_too_many w ins
@@ -122,7 +123,7 @@ first_refused accepts records = refused_from accepts 0 records
 
 -- Whether a window has more text than it may have.
 abbrev pub is_large : WindowState → Bool
-is_large w = nat_lt 268435456 (length (text_of (present w)))
+is_large w = nat_lt most_text (length (text_of (present w)))
 
 -- The refusal of a record, or else of the text that there would be.
 abbrev pub record_refusal : Option ℕ → Bool → Option WindowFault

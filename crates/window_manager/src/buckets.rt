@@ -1,23 +1,22 @@
-//! A window of buckets: in a row, in a circle of places, or one that only grows.
+//! Buckets as a window: in a row from which the oldest are dropped, in a circle of places, or in a row that only grows.
 ghost use Rattle.std.specs.Prelude.{ℕ, Bool, List, ◌≡◌, ◌≢◌, ◌≤◌, ◌<◌, ◌+◌, ◌^◌, ◌&&◌, not, nat_le, [], length, false, drop, OnOk, OnErr, slice_index_or};
+ghost use Rattle.definitions.specs.Limits.{most_buckets, most_places, most_text};
 ghost use Rattle.record_text.specs.declared.kind.Kind.TheVariants as Kinds;
 ghost use Rattle.record_text.specs.declared.command.Command.TheVariants.{Bucket, Drop, Late, Run};
 ghost use Rattle.window_manager.specs.Windows.{asks_too_many, is_circle, is_large, refusal_of, window_after};
-ghost use Rattle.window_manager.specs.Slides.{FitsSlide, slide_of};
+ghost use Rattle.window_manager.specs.Slides.{slide_of};
 ghost use Rattle.window_manager.specs.Buckets.{Applied, IsAllowed, IsOfBuckets, buckets_after, buckets_anew, leaving, no_buckets, text_size};
 
 use crate::WindowFault;
-use crate::leaves::{forget_front, is_circle, leaving, takes_drop, takes_late, text_of_front};
+use crate::leaves::{forget_oldest, is_circle, leaving, takes_drop, takes_late, text_of_oldest};
 use crate::records::{joined_records, records_refusal};
 use crate::slide::{mark_late, slide_on};
+use definitions::MOST_BUCKETS;
 use job_laws::Job;
 use record_text::{Bundle, Command, Kind, Places, Records, Shift};
 use std::alloc::{AllocError, Global};
 use std::collections::VecDeque;
 use std::marker::Model;
-
-/// How many buckets may stand, but for a circle.
-const MOST_LEAVES: usize = 65536;
 
 /// Buckets of records, the oldest first, seen with how they changed since the last run.
 #[derive(Drop)]
@@ -46,7 +45,7 @@ impl BucketWindow {
     pub fn new(alloc: Global, kind: Kind, places: u32) -> BucketWindow
         requires kind { kind ≢ Kinds.Document }
         requires some { 1 ≤ places }
-        requires few { places ≤ 4096 }
+        requires few { places ≤ most_places }
         ensures { result ≡ no_buckets kind places }
     {
         BucketWindow {
@@ -81,8 +80,7 @@ impl BucketWindow {
 
     /// How the buckets changed since the last run. It takes no memory.
     pub fn shift(&self) -> &Shift
-        ensures slide { result.now ≡ slide_of (length self.now.window.leaves) self.now.slid }
-        ensures fits { FitsSlide self.now.slid.stood result.now (length self.now.window.leaves) }
+        ensures { result.now ≡ slide_of (length self.now.window.leaves) self.now.slid }
     {
         &self.shift
     }
@@ -116,18 +114,18 @@ impl BucketWindow {
     /// How many bytes of text stay where a new bucket comes.
     fn kept(&self) -> u64
         ensures kept { result ≡ text_size (drop (leaving self.now.window.kind self.now.window.places (length self.now.window.leaves)) self.now.window.leaves) }
-        ensures small { result ≤ 268435456 }
+        ensures small { result ≤ most_text }
         ensures window { IsOfBuckets self.now.window }
     {
         let went = leaving(self.kind, self.places, self.leaves.len());
-        self.size - text_of_front(&self.leaves, went)
+        self.size - text_of_oldest(&self.leaves, went)
     }
 
     /// Whether as many buckets stand as may.
     fn is_full(&self) -> bool
-        ensures { result ≡ (not (is_circle self.now.window.kind) && nat_le 65536 (length self.now.window.leaves)) }
+        ensures { result ≡ (not (is_circle self.now.window.kind) && nat_le most_buckets (length self.now.window.leaves)) }
     {
-        !is_circle(self.kind) && self.leaves.len() >= MOST_LEAVES
+        !is_circle(self.kind) && self.leaves.len() >= MOST_BUCKETS
     }
 
     /// Why a new bucket is refused.
@@ -154,7 +152,7 @@ impl BucketWindow {
         let bundle = Bundle::of(alloc, records)?;
         self.leaves.reserve(1)?;
         slide_on(alloc, &mut self.shift, self.leaves.len(), went, 1)?;
-        forget_front(&mut self.leaves, went);
+        forget_oldest(&mut self.leaves, went);
         self.leaves.push_back_reserved(bundle);
         self.size = size;
         Ok(())
@@ -182,8 +180,8 @@ impl BucketWindow {
     {
         let n = n as usize;
         slide_on(alloc, &mut self.shift, self.leaves.len(), n, 0)?;
-        self.size -= text_of_front(&self.leaves, n);
-        forget_front(&mut self.leaves, n);
+        self.size -= text_of_oldest(&self.leaves, n);
+        forget_oldest(&mut self.leaves, n);
         Ok(())
     }
 

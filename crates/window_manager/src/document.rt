@@ -1,22 +1,21 @@
-//! A window over an edited document in files.
+//! A document in files as a window: an edit changes the chunks around it, and what changed since the last run is one
+//! splice of all chunks.
 ghost use Rattle.std.specs.Prelude.{◌≡◌, ◌<◌, [], true, false, OnOk, OnErr, length, slice_index_or};
 ghost use Rattle.record_text.specs.declared.kind.Kind.TheVariants as Kinds;
 ghost use Rattle.record_text.specs.declared.command.Command.TheVariants.{Edit, File, Load, Remove};
 ghost use Rattle.window_manager.specs.Windows.{asks_too_many, first_refused, has_command, is_large, is_one_too_many, record_refusal, refusal_of, window_after};
-ghost use Rattle.window_manager.specs.Splices.{Carried, Edits, FitsSplice, IsAfter, document_anew, early_refusal, fault_of, no_document};
+ghost use Rattle.window_manager.specs.Splices.{Carried, Edits, IsAfter, document_anew, early_refusal, fault_of, no_document};
 ghost use Rattle.chunk_store.specs.Documents.{text_size};
 
 use crate::WindowFault;
 use crate::records::first_refused_of;
 use crate::splice::splice_on;
 use chunk_store::{EditFault, Files};
+use definitions::MOST_FILES;
 use job_laws::Job;
 use record_text::{Bundle, Command, Name, Records, Shift};
 use std::alloc::{AllocError, Global};
 use std::marker::Model;
-
-/// How many files may have records.
-const MOST_FILES: usize = 65536;
 
 /// A document in files, seen with how its chunks changed since the last run.
 #[derive(Drop)]
@@ -97,8 +96,7 @@ impl DocumentWindow {
 
     /// How the chunks changed since the last run. It takes no memory.
     pub fn shift(&self) -> &Shift
-        ensures splice { result.now ≡ self.now.splice }
-        ensures fits { FitsSplice self.now.stood result.now (length self.now.window.leaves) }
+        ensures { result.now ≡ self.now.splice }
     {
         &self.shift
     }

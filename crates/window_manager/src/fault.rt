@@ -1,4 +1,4 @@
-//! Why a window refuses a command.
+//! The refusals of a command, in the order in which a window tests them.
 use thiserror::Error;
 
 /// Why a window refuses a command, in the order in which the causes are tested.

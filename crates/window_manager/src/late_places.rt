@@ -1,4 +1,4 @@
-//! The places of leaves that gained records.
+//! Which old buckets gained records since the last run, as rising places that fall when the oldest buckets go.
 ghost use Rattle.std.specs.Prelude.{◌≡◌, ◌++◌, ◌<◌, All, nat_lt, IfOk, OnOk};
 ghost use Rattle.std.specs.List.{filter};
 ghost use Rattle.window_manager.specs.Slides.{lowered, with_place};
@@ -6,7 +6,7 @@ ghost use Rattle.window_manager.specs.Slides.{lowered, with_place};
 use record_text::Places;
 use std::alloc::{AllocError, Global};
 
-/// The places, once so many leaves left at the front.
+/// The places, once so many leaves left.
 pub fn lower(alloc: Global, places: &Places, by: usize) -> Result<Places, AllocError>
     ensures { IfOk result (λ left. left ≡ lowered by places.now) }
 {

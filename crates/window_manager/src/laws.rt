@@ -1,6 +1,6 @@
 //! What holds of the definitions. Each function does nothing: its contract is the law, which a caller has by calling it.
 ghost use Rattle.window_manager.specs.OlderRule.{SameWithoutFiles};
-ghost use Rattle.window_manager.specs.Since.{SinceAnew, SinceNew, SinceOn};
+ghost use Rattle.window_manager.specs.Since.{ShiftBalances, SinceAnew, SinceNew, SinceOn};
 ghost use Rattle.window_manager.specs.Splices.{SplicesJoin};
 
 /// Over commands that name no file the rule of windows is the older one, in leaves and in refusals.
@@ -20,4 +20,9 @@ pub fn since_laws()
     ensures new { SinceNew }
     ensures anew { SinceAnew }
     ensures on { SinceOn }
+{}
+
+/// What is there after a shift is, with what it takes away, what was there before, with what it brings.
+pub fn shift_balances()
+    ensures { ShiftBalances }
 {}

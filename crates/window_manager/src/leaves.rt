@@ -1,5 +1,6 @@
-//! The leaves of a window of buckets.
+//! What each kind of buckets allows, and the steps over a deque of buckets, each with its text beside it.
 ghost use Rattle.std.specs.Prelude.{ℕ, List, ◌≡◌, ◌≤◌, ◌<◌, ◌+◌, length, drop};
+ghost use Rattle.definitions.specs.Limits.{most_text};
 ghost use Rattle.record_text.specs.declared.command.Command.TheVariants.{Drop, Late};
 ghost use Rattle.std.specs.VecDeque.{deque_capacity};
 ghost use Rattle.window_manager.specs.Windows.{has_command, is_circle};
@@ -38,7 +39,7 @@ pub fn takes_late(kind: Kind) -> bool
     }
 }
 
-/// How many leaves leave at the front where a new one comes behind `count`.
+/// How many leaves go where a new one comes behind `count`.
 pub fn leaving(kind: Kind, places: u32, count: usize) -> usize
     requires { 1 ≤ places }
     ensures leaves { result ≡ leaving kind places count }
@@ -52,9 +53,9 @@ pub fn leaving(kind: Kind, places: u32, count: usize) -> usize
 }
 
 /// How many bytes of text the first leaves have.
-pub fn text_of_front(leaves: &VecDeque<Bundle>, n: usize) -> u64
+pub fn text_of_oldest(leaves: &VecDeque<Bundle>, n: usize) -> u64
     requires within { n ≤ length leaves.now.items }
-    requires small { text_size leaves.now.items ≤ 268435456 }
+    requires small { text_size leaves.now.items ≤ most_text }
     ensures { result + text_size (drop n leaves.now.items) ≡ text_size leaves.now.items }
 {
     let mut size = 0;
@@ -65,7 +66,7 @@ pub fn text_of_front(leaves: &VecDeque<Bundle>, n: usize) -> u64
 }
 
 /// Lets the first leaves go.
-pub fn forget_front(leaves: &mut VecDeque<Bundle>, n: usize)
+pub fn forget_oldest(leaves: &mut VecDeque<Bundle>, n: usize)
     requires { n ≤ length leaves.old.items }
     ensures items { leaves.new.items ≡ drop n leaves.old.items }
     ensures room { deque_capacity leaves.new ≡ deque_capacity leaves.old }

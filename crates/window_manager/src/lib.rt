@@ -4,9 +4,9 @@
 #![tactic(auto)]
 
 mod buckets;
+mod content;
 mod document;
 mod fault;
-mod held;
 mod late_places;
 mod laws;
 mod leaves;
@@ -18,5 +18,5 @@ mod tests;
 mod window;
 
 pub use fault::WindowFault;
-pub use laws::{same_without_files, since_laws, splices_join};
+pub use laws::{same_without_files, shift_balances, since_laws, splices_join};
 pub use window::Window;

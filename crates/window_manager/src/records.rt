@@ -1,5 +1,6 @@
-//! The records that a job refuses, and the text that a window would have.
+//! The refusals that depend on the records of a command: one that the job does not accept, or too much text.
 ghost use Rattle.std.specs.Prelude.{◌≡◌, ◌<◌, ◌≤◌, ◌+◌, length, nat_lt, IfSome, OnOk, IfOk, ◌++◌};
+ghost use Rattle.definitions.specs.Limits.{most_text};
 ghost use Rattle.definitions.specs.Records.{text_of};
 ghost use Rattle.window_manager.specs.Windows.{first_refused, record_refusal};
 
@@ -8,8 +9,8 @@ use job_laws::Job;
 use record_text::Records;
 use std::alloc::{AllocError, Global};
 
-/// How many bytes of text a window may have.
-pub const MOST_TEXT: u64 = 268_435_456;
+/// The most bytes of text of a window.
+const MOST_TEXT: u64 = definitions::MOST_TEXT as u64;
 
 /// The index of the first record that the job does not accept. It takes no memory.
 pub fn first_refused_of<J: Job>(job: &J, records: &Records) -> Option<usize>
@@ -26,8 +27,8 @@ pub fn first_refused_of<J: Job>(job: &J, records: &Records) -> Option<usize>
 
 /// Why these records are refused beside so much text.
 pub fn records_refusal<J: Job>(job: &J, records: &Records, kept: u64) -> Option<WindowFault>
-    requires { kept ≤ 268435456 }
-    ensures { result ≡ record_refusal (first_refused (J.accepts (J.setting job.now)) records.now) (nat_lt 268435456 (kept + length (text_of records.now))) }
+    requires { kept ≤ most_text }
+    ensures { result ≡ record_refusal (first_refused (J.accepts (J.setting job.now)) records.now) (nat_lt most_text (kept + length (text_of records.now))) }
 {
     if let Some(index) = first_refused_of(job, records) {
         return Some(WindowFault::BadRecord {

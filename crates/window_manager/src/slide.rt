@@ -1,5 +1,6 @@
-//! How the buckets of a window changed since its last run.
+//! Keeps the slide of a window of buckets as they come, go and gain records, in numbers and places alone.
 ghost use Rattle.std.specs.Prelude.{◌≡◌, ◌<◌, ◌≤◌, ◌+◌, ◌-◌, ◌^◌, min, nat_lt, if◌then◌else◌, OnOk, OnErr};
+ghost use Rattle.definitions.specs.Limits.{most_buckets};
 ghost use Rattle.window_manager.specs.Slides.{FitsCount, Slid, slid_by, lowered, with_place};
 
 use crate::late_places::{add_place, lower};
@@ -16,7 +17,7 @@ pub fn slide_on(
 ) -> Result<(), AllocError>
     requires fits { FitsCount shift.old count }
     requires within { went ≤ count }
-    requires small { (count ≤ 65536) × (came ≤ 1) }
+    requires small { (count ≤ most_buckets) × (came ≤ 1) }
     requires accepted { (slid_by shift.old count).accepted < 2 ^ 63 }
     ensures slid { OnOk result (slid_by shift.new (count + came - went) ≡ record {
       accepted = (slid_by shift.old count).accepted + came;

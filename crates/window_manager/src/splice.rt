@@ -1,4 +1,4 @@
-//! How the leaves of a document changed since its last run.
+//! Keeps the splice of a document as changes come, in numbers alone.
 ghost use Rattle.std.specs.Prelude.{◌≡◌, ◌≤◌, ◌+◌};
 ghost use Rattle.window_manager.specs.Splices.{FitsSplice, splice_after};
 

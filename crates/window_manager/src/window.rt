@@ -1,12 +1,14 @@
-//! A window of any kind.
+//! The one entry for callers, over windows of every kind: a command goes in, leaves and their change come out.
 ghost use Rattle.std.specs.Prelude.{◌≡◌, ◌≤◌, ◌<◌, ◌^◌, [], length, slice_index_or};
 ghost use Rattle.window_manager.specs.Windows.{refusal_of};
-ghost use Rattle.window_manager.specs.Views.{Done, FitsShift, no_leaves, shift_of, view_anew};
+ghost use Rattle.definitions.specs.Limits.{most_places};
+ghost use Rattle.window_manager.specs.Since.{LeadsOn};
+ghost use Rattle.window_manager.specs.Views.{Done, no_leaves, shift_of, view_anew};
 
 use crate::WindowFault;
 use crate::buckets::BucketWindow;
+use crate::content::Content;
 use crate::document::DocumentWindow;
-use crate::held::Held;
 use job_laws::Job;
 use record_text::{Bundle, Command, Kind, Shift};
 use std::alloc::Global;
@@ -16,33 +18,34 @@ use std::marker::Model;
 /// chunks of a document in files.
 #[derive(Drop)]
 pub struct Window {
-    held: Held,
+    content: Content,
 }
 
 impl Model for Window {
     ghost use Rattle.window_manager.specs.Views.{FitsKind, WindowView, view_of};
+    ghost use Rattle.window_manager.specs.Since.{LeadsOn};
 
     ghost Value = { WindowView };
 
-    ghost view = { λ w. view_of w.held };
+    ghost view = { λ w. view_of w.content };
 
-    ghost invariant = { λ w. FitsKind w.held };
+    ghost invariant = { λ w. FitsKind w.content × LeadsOn (view_of w.content) };
 }
 
 impl Window {
     /// An empty window. Only a circle uses `places`. It takes no memory.
     pub fn new(alloc: Global, kind: Kind, places: u32) -> Window
         requires some { 1 ≤ places }
-        requires few { places ≤ 4096 }
+        requires few { places ≤ most_places }
         ensures { result ≡ no_leaves kind places }
     {
-        let held = match kind {
-            Kind::Document => Held::OfDocument(DocumentWindow::new(alloc, places)),
+        let content = match kind {
+            Kind::Document => Content::OfDocument(DocumentWindow::new(alloc, places)),
             Kind::Buckets | Kind::Circle | Kind::Growing => {
-                Held::OfBuckets(BucketWindow::new(alloc, kind, places))
+                Content::OfBuckets(BucketWindow::new(alloc, kind, places))
             }
         };
-        Window { held }
+        Window { content }
     }
 
     /// Carries out a command: what it costs is said at each kind. What the kind lacks is refused, then more than there is
@@ -52,9 +55,9 @@ impl Window {
         requires accepted { self.old.slid.accepted < 2 ^ 63 }
         ensures { Done (refusal_of (J.accepts (J.setting job.now)) self.old.window c) self.old self.new c result }
     {
-        match &mut self.held {
-            Held::OfBuckets(buckets) => buckets.apply(alloc, c, job),
-            Held::OfDocument(document) => document.apply(alloc, c, job),
+        match &mut self.content {
+            Content::OfBuckets(buckets) => buckets.apply(alloc, c, job),
+            Content::OfDocument(document) => document.apply(alloc, c, job),
         }
     }
 
@@ -62,9 +65,9 @@ impl Window {
     pub fn leaf_count(&self) -> usize
         ensures { result ≡ length self.now.window.leaves }
     {
-        match &self.held {
-            Held::OfBuckets(buckets) => buckets.leaf_count(),
-            Held::OfDocument(document) => document.leaf_count(),
+        match &self.content {
+            Content::OfBuckets(buckets) => buckets.leaf_count(),
+            Content::OfDocument(document) => document.leaf_count(),
         }
     }
 
@@ -73,20 +76,20 @@ impl Window {
         requires { i < length self.now.window.leaves }
         ensures { result.now ≡ slice_index_or self.now.window.leaves i [] }
     {
-        match &self.held {
-            Held::OfBuckets(buckets) => buckets.leaf(i),
-            Held::OfDocument(document) => document.leaf(i),
+        match &self.content {
+            Content::OfBuckets(buckets) => buckets.leaf(i),
+            Content::OfDocument(document) => document.leaf(i),
         }
     }
 
     /// How the leaves changed since the last run. It takes no memory.
     pub fn shift(&self) -> &Shift
         ensures shift { result.now ≡ shift_of self.now }
-        ensures fits { FitsShift self.now.window.kind self.now.slid.stood result.now (length self.now.window.leaves) }
+        ensures leads { LeadsOn self.now }
     {
-        match &self.held {
-            Held::OfBuckets(buckets) => buckets.shift(),
-            Held::OfDocument(document) => document.shift(),
+        match &self.content {
+            Content::OfBuckets(buckets) => buckets.shift(),
+            Content::OfDocument(document) => document.shift(),
         }
     }
 
@@ -94,9 +97,9 @@ impl Window {
     pub fn run_done(&mut self, alloc: Global)
         ensures { self.new ≡ view_anew self.old }
     {
-        match &mut self.held {
-            Held::OfBuckets(buckets) => buckets.run_done(alloc),
-            Held::OfDocument(document) => document.run_done(),
+        match &mut self.content {
+            Content::OfBuckets(buckets) => buckets.run_done(alloc),
+            Content::OfDocument(document) => document.run_done(),
         }
     }
 
@@ -104,9 +107,9 @@ impl Window {
     pub fn kind(&self) -> Kind
         ensures { result ≡ self.now.window.kind }
     {
-        match &self.held {
-            Held::OfBuckets(buckets) => buckets.kind(),
-            Held::OfDocument(_) => Kind::Document,
+        match &self.content {
+            Content::OfBuckets(buckets) => buckets.kind(),
+            Content::OfDocument(_) => Kind::Document,
         }
     }
 }

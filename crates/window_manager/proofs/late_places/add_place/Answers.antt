@@ -2,7 +2,7 @@ use Rattle.std.proofs.Common.{◌++◌, ◌∷◌, ◌<◌, ℕ, [], List, All, 
 use Rattle.std.specs.Prelude.{nat_lt}
 use Rattle.std.specs.List.{filter}
 use Rattle.std.proofs.lemmas.List.{take_all}
-use Rattle.window_manager.proofs.PlaceLaws.{filter_takes, filter_skips, all_front, all_push, rising_before, nat_below, nat_not_below}
+use Rattle.window_manager.proofs.PlaceLaws.{filter_takes, filter_skips, all_first, all_push, rising_before, nat_below, nat_not_below}
 use Rattle.window_manager.proofs.late_places.add_place.Goals.{then-place-other+in_ok-push-2, else-place-other}
 use Rattle.window_manager.proofs.late_places.add_place.Goals as goal
 
@@ -16,13 +16,13 @@ places-preserved c =
           let pushed = w.more-is ∙ w.in_ok-push-2.ensures.ok in record {
             value = pushed ∙ ap (λ (l : List ℕ). l ++ p ∷ []) inv.value ∙ append_assoc front (place ∷ back) (p ∷ []) ∙ ap (λ (l : List ℕ). front ++ place ∷ l) (sym (filter_takes ps i p lt c.get-other.ensures (λ q. nat_lt place q) (nat_below place p (omega (arith, w.if-place-other)))));
             below = λ q above all.
-                let f = all_front ps i p q lt c.get-other.ensures all in
+                let f = all_first ps i p q lt c.get-other.ensures all in
                 subst (λ (l : List ℕ). All (λ x. x < q) l) (sym pushed) (all_push q p c.places.more f.1 (inv.below q above f.0));
           }
       | else-place-other w ↦ record {
         value = w.more-is ∙ inv.value ∙ ap (λ (l : List ℕ). front ++ place ∷ l) (sym (filter_skips ps i p lt c.get-other.ensures (λ q. nat_lt place q) (nat_not_below place p (omega (arith, w.if-place-other)))));
         below = λ q above all.
-            let f = all_front ps i p q lt c.get-other.ensures all in
+            let f = all_first ps i p q lt c.get-other.ensures all in
             subst (λ (l : List ℕ). All (λ x. x < q) l) (sym w.more-is) (inv.below q above f.0);
       }
     ]

@@ -5,9 +5,9 @@ use Rattle.marker_chunker.specs.Cuts.{joined, chunks_of}
 use Rattle.chunk_store.specs.Documents.{spliced, text_size, Answers, IsSplice}
 use Rattle.chunk_store.specs.Files.{File, all_chunks, edited, file_at, raised, with_file, IsAt, IsOneTooMany}
 use Rattle.chunk_store.proofs.Ends.{ends_length}
-use Rattle.chunk_store.proofs.Together.{split_at, text_part, chunks_part, chunks_size, before_at}
-use Rattle.chunk_store.proofs.Refusals.{not_less, answers_map, text_is, text_cut, spliced_files, cut_is}
-use Rattle.chunk_store.proofs.Changes.{file_is, some_at, front_set, length_ends, small_set, settled_is, shelf_at}
+use Rattle.chunk_store.proofs.Together.{split_at, chunks_part, chunks_size, before_at}
+use Rattle.chunk_store.proofs.Refusals.{not_less, answers_map, text_cut, spliced_files, cut_is}
+use Rattle.chunk_store.proofs.Changes.{file_is, text_beside, some_at, front_set, length_ends, small_set, settled_is, shelf_at}
 use Rattle.chunk_store.proofs.shelf.Shelf.edit.Goals as goal
 
 pub file_begin-begin-requires : goal.file_begin-begin-requires
@@ -20,10 +20,7 @@ file_begin-begin-requires c =
 pub overflow_sub-others : goal.overflow_sub-others
 overflow_sub-others c =
     let at : IsAt c.args.name.now c.self.inside.files.items c.in-Ok.i = subst (λ (x : List File). IsAt c.args.name.now x c.in-Ok.i) c.as_slice.ensures.value c.in-Ok.ensures.here in
-    let old = ap text_size (file_is c.args.name.now c.self.inside.files.items c.in-Ok.i c.index.result.now at c.index.ensures).1 in
-    let part = text_part c.args.name.now c.self.inside.files.items (split_at c.args.name.now c.self.inside.files.items c.in-Ok.i at) in
-    let sized = c.self.invariant.sized in
-    let size = c.text_len.ensures.size in
+    let part = (text_beside c.args.name.now c.self.inside.files.items c.in-Ok.i c.index.result.now [] c.self.inside.size c.text_len.result at c.index.ensures c.self.invariant.sized c.text_len.ensures.size).0 in
     omega arith
 
 pub returns-in-Err-edit_beside-clause-answers : goal.returns-in-Err-edit_beside-clause-answers
@@ -31,11 +28,7 @@ returns-in-Err-edit_beside-clause-answers c =
     let at : IsAt c.args.name.now c.self.inside.files.items c.in-Ok.i = subst (λ (x : List File). IsAt c.args.name.now x c.in-Ok.i) c.as_slice.ensures.value c.in-Ok.ensures.here in
     let here = file_is c.args.name.now c.self.inside.files.items c.in-Ok.i c.index_mut.result.now at c.index_mut.ensures.value in
     let answers = subst (λ (x : List (List (List ℕ))). Answers (length (joined x) < c.args.at + c.args.del) (268435456 < c.self.inside.size - c.text_len.result + length (text_of (spliced c.args.at c.args.del c.args.ins.now (joined x)))) (Err c.in-Err-edit_beside.fault)) here.1 c.in-Err-edit_beside.ensures.answers in
-    let old = ap text_size (file_is c.args.name.now c.self.inside.files.items c.in-Ok.i c.index.result.now at c.index.ensures).1 in
-    let part = text_part c.args.name.now c.self.inside.files.items (split_at c.args.name.now c.self.inside.files.items c.in-Ok.i at) in
-    let sized = c.self.invariant.sized in
-    let size = c.text_len.ensures.size in
-    let text = text_is c.args.name.now c.self.inside.files.items (spliced c.args.at c.args.del c.args.ins.now (joined (file_at c.args.name.now c.self.inside.files.items))) (c.self.inside.size - c.text_len.result) (split_at c.args.name.now c.self.inside.files.items c.in-Ok.i at) (omega arith) in
+    let text = (text_beside c.args.name.now c.self.inside.files.items c.in-Ok.i c.index.result.now (spliced c.args.at c.args.del c.args.ins.now (joined (file_at c.args.name.now c.self.inside.files.items))) c.self.inside.size c.text_len.result at c.index.ensures c.self.invariant.sized c.text_len.ensures.size).1 in
     let full : IsOneTooMany c.args.ins.now c.args.name.now c.self.inside.files.items → ⊥ = λ h. some_at c.args.name.now c.self.inside.files.items c.in-Ok.i at c.self.invariant.documents h.0 in
     subst (λ (x : List File). Answers ((length (joined (file_at c.args.name.now x)) < c.args.at + c.args.del) ⊎ IsOneTooMany c.args.ins.now c.args.name.now x) (268435456 < text_size (all_chunks (with_file c.args.name.now (edited c.args.at c.args.del c.args.ins.now (file_at c.args.name.now x)) x))) (Err c.in-Err-edit_beside.fault)) c.self.view_is
     (answers_map (Err c.in-Err-edit_beside.fault) (λ m. inl m) (λ n. elim n [ inl m ↦ m | inr h ↦ absurd (full h) ]) (λ l. omega arith) (λ l. omega arith) answers)
@@ -52,11 +45,7 @@ settle-requires-clause-small c =
     let here = file_is c.args.name.now c.self.inside.files.items c.in-Ok.i c.index_mut.result.now at c.index_mut.ensures.value in
     let ok : c.edit_beside.new.self ≡ chunks_of (spliced c.args.at c.args.del c.args.ins.now (joined (file_at c.args.name.now c.self.inside.files.items))) = c.in-Ok-edit_beside.ensures.ok ∙ ap (λ (x : List (List (List ℕ))). chunks_of (spliced c.args.at c.args.del c.args.ins.now (joined x))) here.1 in
     let answers = subst (λ (x : List (List (List ℕ))). Answers (length (joined x) < c.args.at + c.args.del) (268435456 < c.self.inside.size - c.text_len.result + length (text_of (spliced c.args.at c.args.del c.args.ins.now (joined x)))) (Ok c.in-Ok-edit_beside.change)) here.1 c.in-Ok-edit_beside.ensures.answers in
-    let old = ap text_size (file_is c.args.name.now c.self.inside.files.items c.in-Ok.i c.index.result.now at c.index.ensures).1 in
-    let part = text_part c.args.name.now c.self.inside.files.items (split_at c.args.name.now c.self.inside.files.items c.in-Ok.i at) in
-    let sized = c.self.invariant.sized in
-    let size = c.text_len.ensures.size in
-    let text = text_is c.args.name.now c.self.inside.files.items (spliced c.args.at c.args.del c.args.ins.now (joined (file_at c.args.name.now c.self.inside.files.items))) (c.self.inside.size - c.text_len.result) (split_at c.args.name.now c.self.inside.files.items c.in-Ok.i at) (omega arith) in
+    let text = (text_beside c.args.name.now c.self.inside.files.items c.in-Ok.i c.index.result.now (spliced c.args.at c.args.del c.args.ins.now (joined (file_at c.args.name.now c.self.inside.files.items))) c.self.inside.size c.text_len.result at c.index.ensures c.self.invariant.sized c.text_len.ensures.size).1 in
     let fits = not_less 268435456 (c.self.inside.size - c.text_len.result + length (text_of (spliced c.args.at c.args.del c.args.ins.now (joined (file_at c.args.name.now c.self.inside.files.items))))) answers.1 in
     let same = ap (λ (x : List (List (List ℕ))). text_size (all_chunks (with_file c.args.name.now x c.self.inside.files.items))) ok in
     small_set c.args.name.now c.self.inside.files.items c.in-Ok.i (c.index_mut.result.now.0, c.edit_beside.new.self) at c.self.invariant.documents (cut_is c.edit_beside.new.self (spliced c.args.at c.args.del c.args.ins.now (joined (file_at c.args.name.now c.self.inside.files.items))) ok) (omega arith)
@@ -67,12 +56,8 @@ invariant_of-self-2 c =
     let here = file_is c.args.name.now c.self.inside.files.items c.in-Ok.i c.index_mut.result.now at c.index_mut.ensures.value in
     let ok : c.edit_beside.new.self ≡ chunks_of (spliced c.args.at c.args.del c.args.ins.now (joined (file_at c.args.name.now c.self.inside.files.items))) = c.in-Ok-edit_beside.ensures.ok ∙ ap (λ (x : List (List (List ℕ))). chunks_of (spliced c.args.at c.args.del c.args.ins.now (joined x))) here.1 in
     let answers = subst (λ (x : List (List (List ℕ))). Answers (length (joined x) < c.args.at + c.args.del) (268435456 < c.self.inside.size - c.text_len.result + length (text_of (spliced c.args.at c.args.del c.args.ins.now (joined x)))) (Ok c.in-Ok-edit_beside.change)) here.1 c.in-Ok-edit_beside.ensures.answers in
-    let old = ap text_size (file_is c.args.name.now c.self.inside.files.items c.in-Ok.i c.index.result.now at c.index.ensures).1 in
     let named = (file_is c.args.name.now c.self.inside.files.items c.in-Ok.i c.index_mut.result.now at c.index_mut.ensures.value).0 in
-    let part = text_part c.args.name.now c.self.inside.files.items (split_at c.args.name.now c.self.inside.files.items c.in-Ok.i at) in
-    let sized = c.self.invariant.sized in
-    let size = c.text_len.ensures.size in
-    let text = text_is c.args.name.now c.self.inside.files.items (spliced c.args.at c.args.del c.args.ins.now (joined (file_at c.args.name.now c.self.inside.files.items))) (c.self.inside.size - c.text_len.result) (split_at c.args.name.now c.self.inside.files.items c.in-Ok.i at) (omega arith) in
+    let text = (text_beside c.args.name.now c.self.inside.files.items c.in-Ok.i c.index.result.now (spliced c.args.at c.args.del c.args.ins.now (joined (file_at c.args.name.now c.self.inside.files.items))) c.self.inside.size c.text_len.result at c.index.ensures c.self.invariant.sized c.text_len.ensures.size).1 in
     let fits = not_less 268435456 (c.self.inside.size - c.text_len.result + length (text_of (spliced c.args.at c.args.del c.args.ins.now (joined (file_at c.args.name.now c.self.inside.files.items))))) answers.1 in
     let same = ap (λ (x : List (List (List ℕ))). text_size (all_chunks (with_file c.args.name.now x c.self.inside.files.items))) ok in
     let is = settled_is c.args.name.now c.self.inside.files.items c.settle.new.files.items c.in-Ok.i (c.index_mut.result.now.0, c.edit_beside.new.self) at named c.settle.ensures.files in
@@ -88,11 +73,7 @@ returns-clause-answers c =
     let at : IsAt c.args.name.now c.self.inside.files.items c.in-Ok.i = subst (λ (x : List File). IsAt c.args.name.now x c.in-Ok.i) c.as_slice.ensures.value c.in-Ok.ensures.here in
     let here = file_is c.args.name.now c.self.inside.files.items c.in-Ok.i c.index_mut.result.now at c.index_mut.ensures.value in
     let answers = subst (λ (x : List (List (List ℕ))). Answers (length (joined x) < c.args.at + c.args.del) (268435456 < c.self.inside.size - c.text_len.result + length (text_of (spliced c.args.at c.args.del c.args.ins.now (joined x)))) (Ok c.in-Ok-edit_beside.change)) here.1 c.in-Ok-edit_beside.ensures.answers in
-    let old = ap text_size (file_is c.args.name.now c.self.inside.files.items c.in-Ok.i c.index.result.now at c.index.ensures).1 in
-    let part = text_part c.args.name.now c.self.inside.files.items (split_at c.args.name.now c.self.inside.files.items c.in-Ok.i at) in
-    let sized = c.self.invariant.sized in
-    let size = c.text_len.ensures.size in
-    let text = text_is c.args.name.now c.self.inside.files.items (spliced c.args.at c.args.del c.args.ins.now (joined (file_at c.args.name.now c.self.inside.files.items))) (c.self.inside.size - c.text_len.result) (split_at c.args.name.now c.self.inside.files.items c.in-Ok.i at) (omega arith) in
+    let text = (text_beside c.args.name.now c.self.inside.files.items c.in-Ok.i c.index.result.now (spliced c.args.at c.args.del c.args.ins.now (joined (file_at c.args.name.now c.self.inside.files.items))) c.self.inside.size c.text_len.result at c.index.ensures c.self.invariant.sized c.text_len.ensures.size).1 in
     let full : IsOneTooMany c.args.ins.now c.args.name.now c.self.inside.files.items → ⊥ = λ h. some_at c.args.name.now c.self.inside.files.items c.in-Ok.i at c.self.invariant.documents h.0 in
     subst (λ (x : List File). ((length (joined (file_at c.args.name.now x)) < c.args.at + c.args.del) ⊎ IsOneTooMany c.args.ins.now c.args.name.now x → ⊥) × (268435456 < text_size (all_chunks (with_file c.args.name.now (edited c.args.at c.args.del c.args.ins.now (file_at c.args.name.now x)) x)) → ⊥)) c.self.view_is
     ((λ n. elim n [ inl m ↦ answers.0 m | inr h ↦ full h ]), λ l. answers.1 (omega arith))

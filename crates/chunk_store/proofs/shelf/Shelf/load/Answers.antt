@@ -1,13 +1,13 @@
-use Rattle.std.proofs.Common.{◌≡◌, ◌<◌, ◌+◌, ◌-◌, ℕ, List, length, ap, subst, ◌∙◌, arith, Err}
+use Rattle.std.proofs.Common.{◌≡◌, [], ◌<◌, ◌+◌, ◌-◌, ℕ, List, length, ap, subst, ◌∙◌, arith, Err}
 use Rattle.std.proofs.lemmas.List.{get_or-set_same}
 use Rattle.definitions.specs.Records.{text_of}
 use Rattle.marker_chunker.specs.Cuts.{chunks_of}
 use Rattle.chunk_store.specs.Documents.{text_size, Answers, IsSplice}
 use Rattle.chunk_store.specs.Files.{File, all_chunks, file_at, raised, with_file, IsAt, IsOneTooMany}
 use Rattle.chunk_store.proofs.Ends.{ends_length}
-use Rattle.chunk_store.proofs.Together.{split_at, text_part, whole_splice, before_at}
-use Rattle.chunk_store.proofs.Refusals.{not_less, answers_map, text_is, text_cut, spliced_files, cut_is}
-use Rattle.chunk_store.proofs.Changes.{file_is, some_at, front_set, length_ends, small_set, settled_is, shelf_at}
+use Rattle.chunk_store.proofs.Together.{split_at, whole_splice, before_at}
+use Rattle.chunk_store.proofs.Refusals.{not_less, answers_map, text_cut, spliced_files, cut_is}
+use Rattle.chunk_store.proofs.Changes.{file_is, text_beside, some_at, front_set, length_ends, small_set, settled_is, shelf_at}
 use Rattle.chunk_store.proofs.shelf.Shelf.load.Goals as goal
 
 pub file_begin-begin-requires : goal.file_begin-begin-requires
@@ -20,20 +20,13 @@ file_begin-begin-requires c =
 pub overflow_sub-others : goal.overflow_sub-others
 overflow_sub-others c =
     let at : IsAt c.args.name.now c.self.inside.files.items c.in-Ok.i = subst (λ (x : List File). IsAt c.args.name.now x c.in-Ok.i) c.as_slice.ensures.value c.in-Ok.ensures.here in
-    let old = ap text_size (file_is c.args.name.now c.self.inside.files.items c.in-Ok.i c.index.result.now at c.index.ensures).1 in
-    let part = text_part c.args.name.now c.self.inside.files.items (split_at c.args.name.now c.self.inside.files.items c.in-Ok.i at) in
-    let sized = c.self.invariant.sized in
-    let size = c.text_len.ensures.size in
+    let part = (text_beside c.args.name.now c.self.inside.files.items c.in-Ok.i c.index.result.now [] c.self.inside.size c.text_len.result at c.index.ensures c.self.invariant.sized c.text_len.ensures.size).0 in
     omega arith
 
 pub returns-in-Err-load_beside-clause-answers : goal.returns-in-Err-load_beside-clause-answers
 returns-in-Err-load_beside-clause-answers c =
     let at : IsAt c.args.name.now c.self.inside.files.items c.in-Ok.i = subst (λ (x : List File). IsAt c.args.name.now x c.in-Ok.i) c.as_slice.ensures.value c.in-Ok.ensures.here in
-    let old = ap text_size (file_is c.args.name.now c.self.inside.files.items c.in-Ok.i c.index.result.now at c.index.ensures).1 in
-    let part = text_part c.args.name.now c.self.inside.files.items (split_at c.args.name.now c.self.inside.files.items c.in-Ok.i at) in
-    let sized = c.self.invariant.sized in
-    let size = c.text_len.ensures.size in
-    let text = text_is c.args.name.now c.self.inside.files.items c.args.records.now (c.self.inside.size - c.text_len.result) (split_at c.args.name.now c.self.inside.files.items c.in-Ok.i at) (omega arith) in
+    let text = (text_beside c.args.name.now c.self.inside.files.items c.in-Ok.i c.index.result.now c.args.records.now c.self.inside.size c.text_len.result at c.index.ensures c.self.invariant.sized c.text_len.ensures.size).1 in
     let full : IsOneTooMany c.args.records.now c.args.name.now c.self.inside.files.items → ⊥ = λ h. some_at c.args.name.now c.self.inside.files.items c.in-Ok.i at c.self.invariant.documents h.0 in
     subst (λ (x : List File). Answers (IsOneTooMany c.args.records.now c.args.name.now x) (268435456 < text_size (all_chunks (with_file c.args.name.now (chunks_of c.args.records.now) x))) (Err c.in-Err-load_beside.fault)) c.self.view_is
     (answers_map (Err c.in-Err-load_beside.fault) (λ n. absurd n) full (λ l. omega arith) (λ l. omega arith) c.in-Err-load_beside.ensures.answers)
@@ -47,11 +40,7 @@ settle-requires-clause-ends c = length_ends c.self.inside.files.items c.self.ins
 pub settle-requires-clause-small : goal.settle-requires-clause-small
 settle-requires-clause-small c =
     let at : IsAt c.args.name.now c.self.inside.files.items c.in-Ok.i = subst (λ (x : List File). IsAt c.args.name.now x c.in-Ok.i) c.as_slice.ensures.value c.in-Ok.ensures.here in
-    let old = ap text_size (file_is c.args.name.now c.self.inside.files.items c.in-Ok.i c.index.result.now at c.index.ensures).1 in
-    let part = text_part c.args.name.now c.self.inside.files.items (split_at c.args.name.now c.self.inside.files.items c.in-Ok.i at) in
-    let sized = c.self.invariant.sized in
-    let size = c.text_len.ensures.size in
-    let text = text_is c.args.name.now c.self.inside.files.items c.args.records.now (c.self.inside.size - c.text_len.result) (split_at c.args.name.now c.self.inside.files.items c.in-Ok.i at) (omega arith) in
+    let text = (text_beside c.args.name.now c.self.inside.files.items c.in-Ok.i c.index.result.now c.args.records.now c.self.inside.size c.text_len.result at c.index.ensures c.self.invariant.sized c.text_len.ensures.size).1 in
     let fits = not_less 268435456 (c.self.inside.size - c.text_len.result + length (text_of c.args.records.now)) c.in-Ok-load_beside.ensures.answers.1 in
     let same = ap (λ (x : List (List (List ℕ))). text_size (all_chunks (with_file c.args.name.now x c.self.inside.files.items))) c.in-Ok-load_beside.ensures.ok in
     small_set c.args.name.now c.self.inside.files.items c.in-Ok.i (c.index_mut.result.now.0, c.load_beside.new.self) at c.self.invariant.documents (cut_is c.load_beside.new.self c.args.records.now c.in-Ok-load_beside.ensures.ok) (omega arith)
@@ -59,12 +48,8 @@ settle-requires-clause-small c =
 pub invariant_of-self-2 : goal.invariant_of-self-2
 invariant_of-self-2 c =
     let at : IsAt c.args.name.now c.self.inside.files.items c.in-Ok.i = subst (λ (x : List File). IsAt c.args.name.now x c.in-Ok.i) c.as_slice.ensures.value c.in-Ok.ensures.here in
-    let old = ap text_size (file_is c.args.name.now c.self.inside.files.items c.in-Ok.i c.index.result.now at c.index.ensures).1 in
     let named = (file_is c.args.name.now c.self.inside.files.items c.in-Ok.i c.index_mut.result.now at c.index_mut.ensures.value).0 in
-    let part = text_part c.args.name.now c.self.inside.files.items (split_at c.args.name.now c.self.inside.files.items c.in-Ok.i at) in
-    let sized = c.self.invariant.sized in
-    let size = c.text_len.ensures.size in
-    let text = text_is c.args.name.now c.self.inside.files.items c.args.records.now (c.self.inside.size - c.text_len.result) (split_at c.args.name.now c.self.inside.files.items c.in-Ok.i at) (omega arith) in
+    let text = (text_beside c.args.name.now c.self.inside.files.items c.in-Ok.i c.index.result.now c.args.records.now c.self.inside.size c.text_len.result at c.index.ensures c.self.invariant.sized c.text_len.ensures.size).1 in
     let fits = not_less 268435456 (c.self.inside.size - c.text_len.result + length (text_of c.args.records.now)) c.in-Ok-load_beside.ensures.answers.1 in
     let same = ap (λ (x : List (List (List ℕ))). text_size (all_chunks (with_file c.args.name.now x c.self.inside.files.items))) c.in-Ok-load_beside.ensures.ok in
     let is = settled_is c.args.name.now c.self.inside.files.items c.settle.new.files.items c.in-Ok.i (c.index_mut.result.now.0, c.load_beside.new.self) at named c.settle.ensures.files in
@@ -78,11 +63,7 @@ invariant_of-self-2 c =
 pub returns-clause-answers : goal.returns-clause-answers
 returns-clause-answers c =
     let at : IsAt c.args.name.now c.self.inside.files.items c.in-Ok.i = subst (λ (x : List File). IsAt c.args.name.now x c.in-Ok.i) c.as_slice.ensures.value c.in-Ok.ensures.here in
-    let old = ap text_size (file_is c.args.name.now c.self.inside.files.items c.in-Ok.i c.index.result.now at c.index.ensures).1 in
-    let part = text_part c.args.name.now c.self.inside.files.items (split_at c.args.name.now c.self.inside.files.items c.in-Ok.i at) in
-    let sized = c.self.invariant.sized in
-    let size = c.text_len.ensures.size in
-    let text = text_is c.args.name.now c.self.inside.files.items c.args.records.now (c.self.inside.size - c.text_len.result) (split_at c.args.name.now c.self.inside.files.items c.in-Ok.i at) (omega arith) in
+    let text = (text_beside c.args.name.now c.self.inside.files.items c.in-Ok.i c.index.result.now c.args.records.now c.self.inside.size c.text_len.result at c.index.ensures c.self.invariant.sized c.text_len.ensures.size).1 in
     let full : IsOneTooMany c.args.records.now c.args.name.now c.self.inside.files.items → ⊥ = λ h. some_at c.args.name.now c.self.inside.files.items c.in-Ok.i at c.self.invariant.documents h.0 in
     subst (λ (x : List File). (IsOneTooMany c.args.records.now c.args.name.now x → ⊥) × (268435456 < text_size (all_chunks (with_file c.args.name.now (chunks_of c.args.records.now) x)) → ⊥)) c.self.view_is
     (full, λ l. c.in-Ok-load_beside.ensures.answers.1 (omega arith))
