@@ -18,7 +18,7 @@ import time
 TOP = os.path.dirname(os.path.dirname(os.path.abspath(__file__)))
 PROGRAM = os.path.join(TOP, "crates", "slider_main", "out", "slider_main")
 WORDS = ["--job", "count", "--tree", "coalescing"]
-SIZES = [(200, 10), (2_000, 3), (20_000, 1)]
+SIZES = [(200, 10), (2_000, 3), (20_000, 1), (200_000, 1)]
 PEER = "tr -cs A-Za-z0-9 '\\n' | sort | uniq -c"
 
 

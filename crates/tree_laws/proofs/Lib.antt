@@ -1,0 +1,5 @@
+pub mod KeyCounts
+pub mod MergedAll
+pub mod HoldLaws
+pub mod MergeLaws
+pub mod LeafLaws

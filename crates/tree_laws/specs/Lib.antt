@@ -1,0 +1,3 @@
+pub mod Pairs
+pub mod Holds
+pub mod Trees

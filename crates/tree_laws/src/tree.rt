@@ -1,0 +1,155 @@
+//! All that an engine knows of a tree, so that it runs every kind of tree by the same steps. `specs/Trees.antt` has the
+//! words.
+ghost use Rattle.std.specs.Prelude.{◌≡◌, ℕ, ◌+◌, ◌*◌, ◌<◌, ◌≤◌, Bool, true, false, List, [], length, map, All, Option, Some, None, IfOk, OnOk, OnErr, IsSome, option_copied};
+ghost use Rattle.job_laws.specs.Counted.{RoseWithin, RoseBy};
+ghost use Rattle.sheets.specs.United.{tables_of};
+ghost use Rattle.pin_table.specs.Covers.{PinName, Covered, Balanced};
+ghost use Rattle.pin_table.specs.OwnEvents.{Met};
+ghost use Rattle.record_text.specs.Shifts.{FitsShift, shifted};
+ghost use Rattle.tree_laws.specs.Trees.{Shape, TreeView, bare, IsDrafted, LooseOnlyIf, settled, reverted, IsRoot, distinct_keys};
+
+use crate::MergeRecipe;
+use job_laws::{Job, Meter};
+use pin_table::{Caller, Memo};
+use record_text::{Kind, Shift};
+use sheets::Sheet;
+use std::alloc::{AllocError, Global};
+use std::sync::Wait;
+
+/// A tree of merged sheets over the leaves of a window of one kind. An advance makes a draft of the shifted leaves beside
+/// them, which is then settled or reverted; a tree shares the sheets of its leaves and never copies one. The nodes that
+/// went through the memo are pinned, and each call that takes a caller leaves what this caller holds beyond them.
+pub trait Tree<J: Job>: Drop {
+    ghost use Rattle.record_text.specs.declared.kind.Kind.{Kind};
+    ghost use Rattle.record_text.specs.declared.shift.Shift.{Shift};
+
+    /// The windows that it is for.
+    const KIND: Kind;
+
+    ghost KIND: { Kind };
+
+    // Its setting and places, its leaves, and the draft.
+    ghost view: { Self → TreeView J.Val };
+
+    // Its own pins, those of a draft among them, and then those of an inner tree.
+    ghost pins: { Self → List PinName };
+
+    // The most pins that it has where no draft stands.
+    ghost most: { Self → ℕ };
+
+    // The most merges of an advance by the shift.
+    ghost bound: { Self → Shift → ℕ };
+
+    // The most merges of an advance by the shift that brings these tables, where nothing is loose or becomes so.
+    ghost tight: { Self → Shift → List (List (List ℕ × J.Val)) → ℕ };
+
+    // The shape of the leaves after a shift, by the shape before it.
+    ghost shaped: { Shape → Shift → Shape };
+
+    // Its work ahead is done.
+    ghost is_prepared: { Self → Bool };
+
+    // The most merges of the work ahead.
+    ghost ahead_bound: { Self → ℕ };
+
+    /// A tree for a window of so many places, without leaves, whose sheets will have this setting.
+    fn fresh(alloc: Global, setting: u32, places: u32) -> Result<Self, AllocError>
+        requires least { 0 < places }
+        requires most { places ≤ 4096 }
+        ensures view { IfOk result (λ t. view t ≡ bare setting places) }
+        ensures pins { IfOk result (λ t. pins t ≡ []) };
+
+    /// Takes the shift as a draft beside the leaves: `fresh` are the sheets that it brings, those of its places first. Out
+    /// of memory, no draft stands. It walks the paths above the changed places alone, and may wait for the memo's turns.
+    fn advance<W: Wait>(
+        &mut self,
+        alloc: Global,
+        rt: &W,
+        memo: &Memo<MergeRecipe<J>>,
+        caller: &mut Caller<MergeRecipe<J>>,
+        job: &J,
+        run: u64,
+        shift: &Shift,
+        fresh: &[Sheet<J>],
+        m: &mut J::Meter,
+    ) -> Result<(), AllocError>
+        requires of { caller.old.locks ≡ memo.now.locks }
+        requires covered { Covered caller.old (pins self.old) }
+        requires no_draft { (view self.old).draft ≡ None }
+        requires fits { FitsShift KIND (view self.old).places (view self.old).leaves.first (length (view self.old).leaves.tables) (length fresh.now) shift.now }
+        requires job { J.setting job.now ≡ (view self.old).setting }
+        requires settings { All (λ s. s.setting ≡ (view self.old).setting) fresh.now }
+        ensures ok { OnOk result (IsDrafted shaped shift.now fresh.now (view self.old) (view self.new)) }
+        ensures err { OnErr result (view self.new ≡ view self.old) }
+
+        // Whatever it answers:
+        ensures covered { Covered caller.new (pins self.new) }
+        ensures balanced { Balanced caller.old (pins self.old) caller.new (pins self.new) }
+        ensures few { (view self.new).draft ≡ None → length (pins self.new) ≤ most self.new }
+        ensures loose { LooseOnlyIf (Met caller.old caller.new) (view self.old) (view self.new) }
+        ensures counted { RoseBy 0 (bound self.old shift.now) (bound self.old shift.now * distinct_keys (shifted shift.now (tables_of fresh.now) (view self.old).leaves.tables)) (J.Meter.counts m.old) (J.Meter.counts m.new) }
+        ensures tight { (view self.old).leaves.loose ≡ false → (Met caller.old caller.new → ⊥) → RoseWithin (tight self.old shift.now (tables_of fresh.now)) (J.Meter.counts m.old).merges (J.Meter.counts m.new).merges };
+
+    /// Makes the draft the leaves, and gives up the pins that only the leaves before it used. It takes no memory, walks the
+    /// nodes that the draft replaced alone, and may wait for the memo's turns.
+    fn settle<W: Wait>(
+        &mut self,
+        rt: &W,
+        memo: &Memo<MergeRecipe<J>>,
+        caller: &mut Caller<MergeRecipe<J>>,
+    )
+        requires of { caller.old.locks ≡ memo.now.locks }
+        requires covered { Covered caller.old (pins self.old) }
+        requires draft { IsSome (view self.old).draft }
+        ensures settled { view self.new ≡ settled (view self.old) }
+        ensures covered { Covered caller.new (pins self.new) }
+        ensures balanced { Balanced caller.old (pins self.old) caller.new (pins self.new) }
+        ensures few { length (pins self.new) ≤ most self.new };
+
+    /// Drops the draft where one stands, and gives up the pins that only the draft used. It takes no memory, walks the nodes
+    /// that the draft replaced alone, and may wait for the memo's turns.
+    fn revert<W: Wait>(
+        &mut self,
+        rt: &W,
+        memo: &Memo<MergeRecipe<J>>,
+        caller: &mut Caller<MergeRecipe<J>>,
+    )
+        requires of { caller.old.locks ≡ memo.now.locks }
+        requires covered { Covered caller.old (pins self.old) }
+        ensures reverted { view self.new ≡ reverted (view self.old) }
+        ensures covered { Covered caller.new (pins self.new) }
+        ensures balanced { Balanced caller.old (pins self.old) caller.new (pins self.new) }
+        ensures few { length (pins self.new) ≤ most self.new };
+
+    /// The merge of the leaves in order, not of a draft's; none exactly where there are no leaves.
+    fn root(&self) -> Option<&Sheet<J>>
+        ensures { IsRoot J.joined (view self.now) (option_copied result) };
+
+    /// Whether the work ahead is done.
+    fn prepared(&self) -> bool
+        ensures { result ≡ is_prepared self.now };
+
+    /// Does the work ahead, which leaves less to the next advance. Out of memory, it may be called again.
+    fn ahead<W: Wait>(
+        &mut self,
+        alloc: Global,
+        rt: &W,
+        memo: &Memo<MergeRecipe<J>>,
+        caller: &mut Caller<MergeRecipe<J>>,
+        job: &J,
+        run: u64,
+        m: &mut J::Meter,
+    ) -> Result<(), AllocError>
+        requires of { caller.old.locks ≡ memo.now.locks }
+        requires covered { Covered caller.old (pins self.old) }
+        requires no_draft { (view self.old).draft ≡ None }
+        requires job { J.setting job.now ≡ (view self.old).setting }
+        ensures ok { OnOk result (is_prepared self.new ≡ true) }
+
+        // Whatever it answers:
+        ensures same { view self.new ≡ view self.old }
+        ensures covered { Covered caller.new (pins self.new) }
+        ensures balanced { Balanced caller.old (pins self.old) caller.new (pins self.new) }
+        ensures few { length (pins self.new) ≤ most self.new }
+        ensures counted { RoseBy 0 (ahead_bound self.old) (ahead_bound self.old * distinct_keys (view self.old).leaves.tables) (J.Meter.counts m.old) (J.Meter.counts m.new) };
+}
