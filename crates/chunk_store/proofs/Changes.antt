@@ -27,8 +27,8 @@ text_beside name files i f rs size own at here sized size_of =
 pub some_at : (name : List ℕ) (files : List File) (i : ℕ) → IsAt name files i → HasDocuments files → file_at name files ≢ []
 some_at name files i h docs e = doc_at files i ([], []) docs h.within (h.chunks ([], []) ∙ e)
 
-pub front_set : (files : List File) (ends : List ℕ) (i : ℕ) (x : File) → ends ≡ ends_of 0 files → take i ends ≡ ends_of 0 (take i (set files i x))
-front_set files ends i x e = ap (take i) e ∙ ends_take 0 files i ∙ ap (ends_of 0) (sym (take-set files i x))
+pub prefix_set : (files : List File) (ends : List ℕ) (i : ℕ) (x : File) → ends ≡ ends_of 0 files → take i ends ≡ ends_of 0 (take i (set files i x))
+prefix_set files ends i x e = ap (take i) e ∙ ends_take 0 files i ∙ ap (ends_of 0) (sym (take-set files i x))
 
 pub length_ends : (files : List File) (ends : List ℕ) (i : ℕ) (x : File) → ends ≡ ends_of 0 files → length ends ≡ length (set files i x)
 length_ends files ends i x e = ap length e ∙ ends_length 0 files ∙ sym (length-set files i x)
@@ -40,7 +40,7 @@ all_set name files i x h =
     ∙ all_append (take i files) (x ∷ drop (suc i) files)
     ∙ ap (λ n. all_chunks (take i files) ++ (x.1 ++ all_chunks (drop n files))) next
     ∙ ap (λ (y : List File). all_chunks (take i files) ++ (x.1 ++ all_chunks y)) (sym h.back)
-    ∙ ap (λ (y : List File). all_chunks y ++ (x.1 ++ all_chunks (greater name files))) (sym h.front)
+    ∙ ap (λ (y : List File). all_chunks y ++ (x.1 ++ all_chunks (greater name files))) (sym h.prefix)
     ∙ sym (all_with name x.1 files)
 
 pub small_set : (name : List ℕ) (files : List File) (i : ℕ) (x : File) → IsAt name files i → HasDocuments files → x.1 ≡ chunks_of (joined x.1)

@@ -11,7 +11,7 @@ use Rattle.std.proofs.lemmas.Bool.{cases_order}
 use Rattle.record_text.specs.Names.{name_cmp}
 use Rattle.chunk_store.specs.Files.{File, IsBelow, HasRisingNames, smaller, file_at, IsAt, IsGap}
 
--- filters that keep a front or a back
+-- filters that keep a prefix or a rest
 
 filter_none : {X : Type 0} (p : X → Bool) (xs : List X) → ((j : ℕ) (d : X) → j < length xs → p (get_or xs j d) ≡ false) → filter p xs ≡ []
 filter_none p [] h = refl
@@ -23,13 +23,13 @@ filter_all p [] h = refl
 filter_all p (x ∷ xs) h =
     ap (λ b. cond b (x ∷ filter p xs) (filter p xs)) (h 0 x (omega arith)) ∙ ap (λ y. x ∷ y) (filter_all p xs (λ j d l. h (suc j) d (omega arith)))
 
-filter_front : {X : Type 0} (p : X → Bool) (xs : List X) (i : ℕ) → ((j : ℕ) (d : X) → j < i → j < length xs → p (get_or xs j d) ≡ true) → ((j : ℕ) (d : X) → i ≤ j → j < length xs → p (get_or xs j d) ≡ false) → filter p xs ≡ take i xs
-filter_front p [] zero h g = refl
-filter_front p [] (suc i) h g = refl
-filter_front p (x ∷ xs) zero h g = filter_none p (x ∷ xs) (λ j d l. g j d (omega arith) l)
-filter_front p (x ∷ xs) (suc i) h g =
+filter_prefix : {X : Type 0} (p : X → Bool) (xs : List X) (i : ℕ) → ((j : ℕ) (d : X) → j < i → j < length xs → p (get_or xs j d) ≡ true) → ((j : ℕ) (d : X) → i ≤ j → j < length xs → p (get_or xs j d) ≡ false) → filter p xs ≡ take i xs
+filter_prefix p [] zero h g = refl
+filter_prefix p [] (suc i) h g = refl
+filter_prefix p (x ∷ xs) zero h g = filter_none p (x ∷ xs) (λ j d l. g j d (omega arith) l)
+filter_prefix p (x ∷ xs) (suc i) h g =
     ap (λ b. cond b (x ∷ filter p xs) (filter p xs)) (h 0 x (omega arith) (omega arith))
-    ∙ ap (λ y. x ∷ y) (filter_front p xs i (λ j d k l. h (suc j) d (omega arith) (omega arith)) (λ j d k l. g (suc j) d (omega arith) (omega arith)))
+    ∙ ap (λ y. x ∷ y) (filter_prefix p xs i (λ j d k l. h (suc j) d (omega arith) (omega arith)) (λ j d k l. g (suc j) d (omega arith) (omega arith)))
 
 filter_back : {X : Type 0} (p : X → Bool) (xs : List X) (i : ℕ) → ((j : ℕ) (d : X) → j < i → j < length xs → p (get_or xs j d) ≡ false) → ((j : ℕ) (d : X) → i ≤ j → j < length xs → p (get_or xs j d) ≡ true) → filter p xs ≡ drop i xs
 filter_back p [] zero h g = refl
@@ -105,13 +105,13 @@ module _ (files : List File) (name : List ℕ) (rising : HasRisingNames files) (
   low_is : (j : ℕ) (d : File) → j < i → j < length files → name_cmp name (get_or files j d).0 ≡ Greater
   low_is j d k l = less_back (get_or files j d).0 name (is_less _ (lows j d k l))
 
-  fronts : smaller name files ≡ take i files
-  fronts = filter_front (λ f. is_lt (name_cmp f.0 name)) files i lows highs
+  lower : smaller name files ≡ take i files
+  lower = filter_prefix (λ f. is_lt (name_cmp f.0 name)) files i lows highs
 
   pub at_place : i < length files → ((d : File) → (get_or files i d).0 ≡ name) → IsAt name files i
   at_place l here = record {
     within = l;
-    front = fronts;
+    prefix = lower;
     back = filter_back (λ f. is_lt (name_cmp name f.0)) files (i + 1)
         (λ j d k m. elim (le_cases j i (omega arith)) [
           | inl e ↦ ap is_lt (subst (λ n. name_cmp name (get_or files n d).0 ≡ Equal) (sym e) (ap (name_cmp name) (here d) ∙ tied_itself nat_list_cmp_total name))
@@ -137,7 +137,7 @@ module _ (files : List File) (name : List ℕ) (rising : HasRisingNames files) (
   pub gap_place : i ≤ length files → ((d : File) → i < length files → (get_or files i d).0 ≡ name → ⊥) → IsGap name files i
   gap_place l apart = record {
     within = l;
-    front = fronts;
+    prefix = lower;
     back = filter_back (λ f. is_lt (name_cmp name f.0)) files i (λ j d k m. ap is_lt (low_is j d k m)) (λ j d k m. ap is_lt (high_is apart j d k m));
     none = file_none name files (λ j d m. elim (cases_order j i) [
       | inl e ↦ ap is_eq (high_is apart j d (omega arith) m)

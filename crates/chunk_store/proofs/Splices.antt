@@ -20,11 +20,11 @@ first_same [] y z l = absurd (omega arith)
 first_same (r ∷ b) y z l = refl
 
 -- the shared chunks in front stay chunks, since the record behind them stays
-pub front : (olds : List (List (List ℕ))) (first at : ℕ) (begun more : List (List ℕ)) → AreChunks olds None → at ≤ length (joined olds)
+pub prefix : (olds : List (List (List ℕ))) (first at : ℕ) (begun more : List (List ℕ)) → AreChunks olds None → at ≤ length (joined olds)
     → joined (take first olds) ++ begun ≡ take at (joined olds) → (at ≡ 0 → first ≡ 0) → (0 < at → reach first olds < at)
     → AreChunks (take first olds) (first_or None (begun ++ more))
-front olds first zero begun more h m is begins holds = subst (λ (f : ℕ). AreChunks (take f olds) (first_or None (begun ++ more))) (sym (begins refl)) tt
-front olds first (suc n) begun more h m is begins holds =
+prefix olds first zero begun more h m is begins holds = subst (λ (f : ℕ). AreChunks (take f olds) (first_or None (begun ++ more))) (sym (begins refl)) tt
+prefix olds first (suc n) begun more h m is begins holds =
     let below : reach first olds < suc n = holds (omega arith) in
     let size = ap length is in
     let sizes = length-append (joined (take first olds)) begun in
@@ -66,14 +66,14 @@ module _ (olds fresh : List (List (List ℕ))) (first last place at del : ℕ) (
   pub news_are : AreChunks news None
   news_are = are_chunks_append (take first olds) (fresh ++ drop last olds) None
       (subst (λ n. AreChunks (take first olds) n) (sym (ap (first_or None) again))
-      (front olds first at begun (ins ++ drop (at + del) (joined olds)) are (omega arith) headed begins holds))
+      (prefix olds first at begun (ins ++ drop (at + del) (joined olds)) are (omega arith) headed begins holds))
       again_are
 
   -- the central fact
   pub news_is : news ≡ chunks_of (spliced at del ins (joined olds))
   news_is = sym (chunks_all news news_are) ∙ ap chunks_of joined_news
 
-  behind : (front rest : List (List (List ℕ))) (q k : ℕ) → reach q (front ++ rest) ≡ length (joined front) + k → (p : ℕ) × (reach p rest ≡ k)
+  behind : (prefix rest : List (List (List ℕ))) (q k : ℕ) → reach q (prefix ++ rest) ≡ length (joined prefix) + k → (p : ℕ) × (reach p rest ≡ k)
   behind [] rest q k e = (q, (let f : reach q rest ≡ k = omega arith in f))
   behind (c ∷ cs) rest zero k e = (0, (let f : 0 ≡ k = omega arith in f))
   behind (c ∷ cs) rest (suc q) k e =

@@ -57,9 +57,9 @@ spliced_text at del ins rs =
     let c = text_split (at + del) rs in
     omega arith
 
--- a shorter front has no more text
-pub front_text : (at del : ℕ) (rs : List (List ℕ)) → length (text_of (take at rs)) ≤ length (text_of (take (at + del) rs))
-front_text at del rs =
+-- a shorter prefix has no more text
+pub prefix_text : (at del : ℕ) (rs : List (List ℕ)) → length (text_of (take at rs)) ≤ length (text_of (take (at + del) rs))
+prefix_text at del rs =
     let h = text_take at (take (at + del) rs) in
     let e : take at (take (at + del) rs) ≡ take at rs = take-take at (at + del) rs (omega arith) in
     let f = ap (λ x. length (text_of x)) e in

@@ -60,13 +60,13 @@ pub split_at : (name : List ℕ) (files : List File) (i : ℕ) → IsAt name fil
 split_at name files i h =
     all_at files i ([], []) h.within
     ∙ ap (λ (x : List (List (List ℕ))). all_chunks (take i files) ++ (x ++ all_chunks (drop (i + 1) files))) (h.chunks ([], []))
-    ∙ ap (λ (x : List File). all_chunks x ++ (file_at name files ++ all_chunks (drop (i + 1) files))) (sym h.front)
+    ∙ ap (λ (x : List File). all_chunks x ++ (file_at name files ++ all_chunks (drop (i + 1) files))) (sym h.prefix)
     ∙ ap (λ (x : List File). all_chunks (smaller name files) ++ (file_at name files ++ all_chunks x)) (sym h.back)
 
 pub split_gap : (name : List ℕ) (files : List File) (i : ℕ) → IsGap name files i → IsSplit name files
 split_gap name files i h =
     sym (ap all_chunks (take-append-drop i files)) ∙ all_append (take i files) (drop i files)
-    ∙ ap (λ (x : List File). all_chunks x ++ all_chunks (drop i files)) (sym h.front)
+    ∙ ap (λ (x : List File). all_chunks x ++ all_chunks (drop i files)) (sym h.prefix)
     ∙ ap (λ (x : List File). all_chunks (smaller name files) ++ all_chunks x) (sym h.back)
     ∙ ap (λ (x : List (List (List ℕ))). all_chunks (smaller name files) ++ (x ++ all_chunks (greater name files))) (sym h.none)
 
@@ -103,29 +103,29 @@ drop_past : {X : Type 0} (xs ys : List X) (n : ℕ) → drop (length xs + n) (xs
 drop_past [] ys n = let e : 0 + n ≡ n = omega arith in ap (λ k. drop k ys) e
 drop_past (x ∷ xs) ys n = let e : suc (length xs) + n ≡ suc (length xs + n) = omega arith in ap (λ k. drop k (x ∷ xs ++ ys)) e ∙ drop_past xs ys n
 
-splice_within : (front old new back : List (List (List ℕ))) (own : Change) → IsSplice old new own → IsSplice (front ++ (old ++ back)) (front ++ (new ++ back)) (raised (length front) own)
-splice_within front old new back own h =
-    let a = length-append front (old ++ back) in
+splice_within : (prefix old new back : List (List (List ℕ))) (own : Change) → IsSplice old new own → IsSplice (prefix ++ (old ++ back)) (prefix ++ (new ++ back)) (raised (length prefix) own)
+splice_within prefix old new back own h =
+    let a = length-append prefix (old ++ back) in
     let b = length-append old back in
-    let c = length-append front (new ++ back) in
+    let c = length-append prefix (new ++ back) in
     let d = length-append new back in
     let in_old : own.first + own.gone ≤ length old = h.within in
     let in_new : own.first + own.fresh ≤ length new = h.fits in
-    let fresh : (length front + own.first) + own.fresh ≡ length front + (own.first + own.fresh) = omega arith in
-    let gone : length front + (own.first + own.gone) ≡ (length front + own.first) + own.gone = omega arith in
+    let fresh : (length prefix + own.first) + own.fresh ≡ length prefix + (own.first + own.fresh) = omega arith in
+    let gone : length prefix + (own.first + own.gone) ≡ (length prefix + own.first) + own.gone = omega arith in
     record {
       within = omega arith;
       fits = omega arith;
-      before = take_past front (new ++ back) own.first
-          ∙ ap (λ x. front ++ x) (take-append-le own.first new back (omega arith) ∙ h.before ∙ sym (take-append-le own.first old back (omega arith)))
-          ∙ sym (take_past front (old ++ back) own.first);
-      behind = ap (λ k. drop k (front ++ (new ++ back))) fresh
-          ∙ drop_past front (new ++ back) (own.first + own.fresh)
+      before = take_past prefix (new ++ back) own.first
+          ∙ ap (λ x. prefix ++ x) (take-append-le own.first new back (omega arith) ∙ h.before ∙ sym (take-append-le own.first old back (omega arith)))
+          ∙ sym (take_past prefix (old ++ back) own.first);
+      behind = ap (λ k. drop k (prefix ++ (new ++ back))) fresh
+          ∙ drop_past prefix (new ++ back) (own.first + own.fresh)
           ∙ drop-append-le (own.first + own.fresh) new back in_new
           ∙ ap (λ x. x ++ back) h.behind
           ∙ sym (drop-append-le (own.first + own.gone) old back in_old)
-          ∙ sym (drop_past front (old ++ back) (own.first + own.gone))
-          ∙ ap (λ k. drop k (front ++ (old ++ back))) gone;
+          ∙ sym (drop_past prefix (old ++ back) (own.first + own.gone))
+          ∙ ap (λ k. drop k (prefix ++ (old ++ back))) gone;
     }
 
 pub splice_with : (name : List ℕ) (files : List File) (cs : List (List (List ℕ))) (own : Change) → IsSplit name files → IsSplice (file_at name files) cs own
@@ -197,12 +197,12 @@ below_of : (a name : List ℕ) (cs : List (List (List ℕ))) (back : List File) 
 below_of a name [] back h b = below_chain a name back h b
 below_of a name (c ∷ cs) back h b = (h, below_chain a name back h b)
 
-rising_join : (front : List File) (name : List ℕ) (cs : List (List (List ℕ))) (back : List File) → HasRisingNames front → AreBelow name front → IsBelow name back → HasRisingNames back
-    → HasRisingNames (front ++ (file_of name cs ++ back))
+rising_join : (prefix : List File) (name : List ℕ) (cs : List (List (List ℕ))) (back : List File) → HasRisingNames prefix → AreBelow name prefix → IsBelow name back → HasRisingNames back
+    → HasRisingNames (prefix ++ (file_of name cs ++ back))
 rising_join [] name [] back r a b s = s
 rising_join [] name (c ∷ cs) back r a b s = (b, s)
-rising_join (f ∷ front) name cs back r a b s =
-    (below_append f.0 front (file_of name cs ++ back) r.0 (below_of f.0 name cs back a.0 b), rising_join front name cs back r.1 a.1 b s)
+rising_join (f ∷ prefix) name cs back r a b s =
+    (below_append f.0 prefix (file_of name cs ++ back) r.0 (below_of f.0 name cs back a.0 b), rising_join prefix name cs back r.1 a.1 b s)
 
 pub rising_with : (name : List ℕ) (cs : List (List (List ℕ))) (files : List File) → HasRisingNames files → HasRisingNames (with_file name cs files)
 rising_with name cs files h =
@@ -274,11 +274,11 @@ some_of name (c ∷ cs) h = refl
 
 pub at_with : (name : List ℕ) (files : List File) (i : ℕ) (cs : List (List (List ℕ))) → IsAt name files i → take i files ++ (file_of name cs ++ drop (i + 1) files) ≡ with_file name cs files
 at_with name files i cs h =
-    ap (λ (x : List File). take i files ++ (file_of name cs ++ x)) (sym h.back) ∙ ap (λ (x : List File). x ++ (file_of name cs ++ greater name files)) (sym h.front)
+    ap (λ (x : List File). take i files ++ (file_of name cs ++ x)) (sym h.back) ∙ ap (λ (x : List File). x ++ (file_of name cs ++ greater name files)) (sym h.prefix)
 
 gap_with : (name : List ℕ) (files : List File) (i : ℕ) (cs : List (List (List ℕ))) → IsGap name files i → take i files ++ (file_of name cs ++ drop i files) ≡ with_file name cs files
 gap_with name files i cs h =
-    ap (λ (x : List File). take i files ++ (file_of name cs ++ x)) (sym h.back) ∙ ap (λ (x : List File). x ++ (file_of name cs ++ greater name files)) (sym h.front)
+    ap (λ (x : List File). take i files ++ (file_of name cs ++ x)) (sym h.back) ∙ ap (λ (x : List File). x ++ (file_of name cs ++ greater name files)) (sym h.prefix)
 
 pub gap_none : (name : List ℕ) (files : List File) (i : ℕ) → IsGap name files i → files ≡ with_file name [] files
 gap_none name files i h = sym (take-append-drop i files) ∙ gap_with name files i [] h
@@ -309,10 +309,10 @@ count_gap name files i cs h =
     omega arith
 
 pub before_at : (name : List ℕ) (files : List File) (i : ℕ) → IsAt name files i → length (all_chunks (take i files)) ≡ chunks_before name files
-before_at name files i h = ap (λ (x : List File). length (all_chunks x)) (sym h.front)
+before_at name files i h = ap (λ (x : List File). length (all_chunks x)) (sym h.prefix)
 
 pub before_gap : (name : List ℕ) (files : List File) (i : ℕ) → IsGap name files i → length (all_chunks (take i files)) ≡ chunks_before name files
-before_gap name files i h = ap (λ (x : List File). length (all_chunks x)) (sym h.front)
+before_gap name files i h = ap (λ (x : List File). length (all_chunks x)) (sym h.prefix)
 
 pub shelf_with : (name : List ℕ) (cs : List (List (List ℕ))) (files news : List File) (ends : List ℕ) (size : ℕ) → news ≡ with_file name cs files → HasRisingNames files → HasDocuments files → cs ≡ chunks_of (joined cs)
     → length news ≤ 65536 → ends ≡ ends_of 0 news → size ≡ text_size (all_chunks news) → size ≤ 268435456 → IsShelf news ends size

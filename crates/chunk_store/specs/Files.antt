@@ -83,7 +83,7 @@ IsLoadOf chunks name files change = IsWhole (chunks_before name files) (file_at 
 -- The file with this name stands at place `i`.
 pub record IsAt (name : List ℕ) (files : List File) (i : ℕ) : Type 0 where
   pub within : i < length files
-  pub front : smaller name files ≡ take i files
+  pub prefix : smaller name files ≡ take i files
   pub back : greater name files ≡ drop (i + 1) files
   pub named : (d : File) → (slice_index_or files i d).0 ≡ name
   pub chunks : (d : File) → (slice_index_or files i d).1 ≡ file_at name files
@@ -91,7 +91,7 @@ pub record IsAt (name : List ℕ) (files : List File) (i : ℕ) : Type 0 where
 -- No file has this name, and one with it would stand at place `i`.
 pub record IsGap (name : List ℕ) (files : List File) (i : ℕ) : Type 0 where
   pub within : i ≤ length files
-  pub front : smaller name files ≡ take i files
+  pub prefix : smaller name files ≡ take i files
   pub back : greater name files ≡ drop i files
   pub none : file_at name files ≡ []
 

@@ -41,7 +41,7 @@ pub fn find_chunk(ends: &[usize], i: usize) -> usize
 /// Writes down where the chunks of each file end, from file `from` on; before it that stands.
 fn fill(ends: &mut Vec<usize>, files: &[(Name, Document)], from: usize)
     requires within { from ≤ length files.now }
-    requires front { take from ends.old.items ≡ ends_of 0 (take from files.now) }
+    requires prefix { take from ends.old.items ≡ ends_of 0 (take from files.now) }
     requires room { length files.now ≤ vec_capacity ends.old }
     requires small { length (all_chunks files.now) ≤ most_text }
     ensures { ends.new.items ≡ ends_of 0 files.now }
@@ -67,7 +67,7 @@ fn drop_empty(files: &mut Vec<(Name, Document)>, i: usize)
 /// The same, and writes down anew where chunks end.
 pub fn settle(files: &mut Vec<(Name, Document)>, ends: &mut Vec<usize>, i: usize)
     requires within { i < length files.old.items }
-    requires front { take i ends.old.items ≡ ends_of 0 (take i files.old.items) }
+    requires prefix { take i ends.old.items ≡ ends_of 0 (take i files.old.items) }
     requires ends { length ends.old.items ≡ length files.old.items }
     requires small { length (all_chunks files.old.items) ≤ most_text }
     ensures files { (d : File) → files.new.items ≡ take i files.old.items ++ (file_of (slice_index_or files.old.items i d).0 (slice_index_or files.old.items i d).1 ++ drop (i + 1) files.old.items) }

@@ -81,7 +81,7 @@ pub fn text_kept(chunks: &[Chunk], size: u64, at: usize, del: usize) -> u64
     ensures most { result ≤ size }
     ensures spliced { (ins : List (List ℕ)) → length (text_of (spliced at del ins (joined chunks.now))) ≡ result + length (text_of ins) }
 {
-    let front = text_before(chunks, at);
+    let before = text_before(chunks, at);
     let gone = text_before(chunks, at + del);
-    front + (size - gone)
+    before + (size - gone)
 }

@@ -220,7 +220,7 @@ impl Plain {
         ins: &Records,
     ) -> Result<Plain, AllocError> {
         let mut records = Records::new(alloc);
-        'front: for i in 0..at.min(self.records.len()) {
+        'before: for i in 0..at.min(self.records.len()) {
             push(&mut records, self.records.get(i))?;
         }
         'ins: for i in 0..ins.len() {

@@ -1,4 +1,4 @@
--- Merging from the front is merging by keys.
+-- Merging from the head is merging by keys.
 use Rattle.std.proofs.Common.{◌≡◌, ℕ, Bool, true, false, cond, List, [], ◌∷◌, Some, None, refl, sym, ap, subst, ◌∙◌}
 use Rattle.std.specs.declared.cmp.Ordering.{Ordering}
 use Rattle.std.specs.declared.cmp.Ordering.TheVariants.{Less, Equal, Greater}
@@ -71,6 +71,6 @@ module _ {V : Type 0} (join : V → V → V) where
           rw ys (sym (ap (λ o. joined_found join o (Some f.1)) (ap (λ z. cond z (Some e.1) (value_at t q)) (sym xs) ∙ none)))
       order_case Greater is x xs false ys ih ih2 = rw ys (ih2 ∙ ap (λ z. joined_found join (cond z (Some e.1) (value_at t q)) (value_at u q)) xs)
 
-  -- merging from the front is merging by keys
+  -- merging from the head is merging by keys
   pub merge-merged : (t u : List (List ℕ × V)) → IsRising t → IsRising u → merge_in_order join t u ≡ merged join t u
   merge-merged t u a b = same_tables _ _ (is_true _ (rising-merge t (passes _ a) u (passes _ b))) (IsRising-merged join t u) (λ q. value_at-merge t (passes _ a) u (passes _ b) q ∙ sym (value_at-merged join t u q))

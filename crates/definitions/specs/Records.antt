@@ -24,10 +24,10 @@ abbrev pub word_before : List ℕ → List (List ℕ) → List (List ℕ)
 word_before [] words = words
 word_before (b ∷ bs) words = (b ∷ bs) ∷ words
 
--- The words of bytes behind the front of a word.
+-- The words of bytes behind the prefix of a word.
 abbrev pub words_behind : List ℕ → List ℕ → List (List ℕ)
-words_behind front [] = word_before front []
-words_behind front (b ∷ bs) = if is_word_byte b then words_behind (front ++ b ∷ []) bs else word_before front (words_behind [] bs)
+words_behind prefix [] = word_before prefix []
+words_behind prefix (b ∷ bs) = if is_word_byte b then words_behind (prefix ++ b ∷ []) bs else word_before prefix (words_behind [] bs)
 
 -- The words of a record: its longest runs of such bytes, in order.
 abbrev pub words_of : List ℕ → List (List ℕ)

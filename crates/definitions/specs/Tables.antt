@@ -90,7 +90,7 @@ abbrev pub merge_into : {V : Type 0} → (V → V → V) → List ℕ × V → (
 merge_into join e rest [] = e ∷ rest []
 merge_into join e rest (f ∷ u) = by_order (key_cmp e.0 f.0) (e ∷ rest (f ∷ u)) ((e.0, join e.1 f.1) ∷ rest u) (f ∷ merge_into join e rest u)
 
--- Two rising lists of entries as one, from the front.
+-- Two rising lists of entries as one, from the head.
 abbrev pub merge_in_order : {V : Type 0} → (V → V → V) → List (List ℕ × V) → List (List ℕ × V) → List (List ℕ × V)
 merge_in_order join [] u = u
 merge_in_order join (e ∷ t) u = merge_into join e (merge_in_order join t) u

@@ -47,7 +47,7 @@ module _ {A : Type 0} (R : A → A → Ordering) where
   first_merge z [] f u g = g
   first_merge z (x ∷ xs) f u g = first_into z x (in_order R xs) f.0 (first_merge z xs f.1) u g
 
-  -- The front of an ordered list is ordered.
+  -- A prefix of an ordered list is ordered.
   first_take : (z : A) (k : ℕ) (a : List A) → IsFirstOf R z a → IsFirstOf R z (take k a)
   first_take z zero a f = tt
   first_take z (suc k) [] f = tt

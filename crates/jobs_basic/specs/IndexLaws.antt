@@ -8,7 +8,7 @@ use Rattle.job_laws.specs.Forms.{split_at_tab, is_short, fields_pass, is_index_r
 use Rattle.jobs_basic.specs.Words.{good_words}
 use Rattle.jobs_basic.specs.Index.{in_document, text_pairs, index_emits, union, index_joined, RisesFrom, index_good}
 
--- The three cases of two fronts.
+-- The three cases of two heads.
 lower : (d : ℕ) (ds : List ℕ) (e : ℕ) (es : List ℕ) → d < e → union (d ∷ ds) (e ∷ es) ≡ d ∷ union ds (e ∷ es)
 lower d ds e es lt =
     let is : nat_lt d e ≡ true = grind arith in
@@ -82,9 +82,9 @@ union_rises n (d ∷ ds) (e ∷ es) g h = by (order_of d e) (λ m g' h'. union_r
     by (above gt) ih1 ih2 ih3 = subst (RisesFrom n) (sym (higher d ds e es gt)) (h.0, h.1, ih2 (suc e) (omega (arith, gt), g.1, g.2) h.2)
     by (level eq) ih1 ih2 ih3 = subst (RisesFrom n) (sym (ap (λ m. union (d ∷ ds) (m ∷ es)) (sym eq) ∙ same d ds es)) (g.0, g.1, ih3 (suc d) g.2 (subst (λ m. RisesFrom (suc m) es) (sym eq) h.2))
 
--- A number below both fronts is the front.
-front_right : (x : ℕ) (xs : List ℕ) (y : ℕ) (ys : List ℕ) (z : ℕ) (zs : List ℕ) → x < y → x < z → union (x ∷ xs) (union (y ∷ ys) (z ∷ zs)) ≡ x ∷ union xs (union (y ∷ ys) (z ∷ zs))
-front_right x xs y ys z zs xy xz = by (order_of y z)
+-- A number below both heads is the head.
+head_right : (x : ℕ) (xs : List ℕ) (y : ℕ) (ys : List ℕ) (z : ℕ) (zs : List ℕ) → x < y → x < z → union (x ∷ xs) (union (y ∷ ys) (z ∷ zs)) ≡ x ∷ union xs (union (y ∷ ys) (z ∷ zs))
+head_right x xs y ys z zs xy xz = by (order_of y z)
   where
     shown : (h : ℕ) (t : List ℕ) → x < h → union (y ∷ ys) (z ∷ zs) ≡ h ∷ t → union (x ∷ xs) (union (y ∷ ys) (z ∷ zs)) ≡ x ∷ union xs (union (y ∷ ys) (z ∷ zs))
     shown h t lt is = ap (λ l. union (x ∷ xs) l) is ∙ lower x xs h t lt ∙ ap (λ l. x ∷ union xs l) (sym is)
@@ -94,15 +94,15 @@ front_right x xs y ys z zs xy xz = by (order_of y z)
     by (level eq) = shown y (union ys zs) xy (ap (λ n. union (y ∷ ys) (n ∷ zs)) (sym eq) ∙ same y ys zs)
     by (above gt) = shown z (union (y ∷ ys) zs) xz (higher y ys z zs gt)
 
-front_left : (x : ℕ) (xs : List ℕ) (y : ℕ) (ys : List ℕ) (z : ℕ) (zs : List ℕ) → z < x → z < y → union (union (x ∷ xs) (y ∷ ys)) (z ∷ zs) ≡ z ∷ union (union (x ∷ xs) (y ∷ ys)) zs
-front_left x xs y ys z zs zx zy =
+head_left : (x : ℕ) (xs : List ℕ) (y : ℕ) (ys : List ℕ) (z : ℕ) (zs : List ℕ) → z < x → z < y → union (union (x ∷ xs) (y ∷ ys)) (z ∷ zs) ≡ z ∷ union (union (x ∷ xs) (y ∷ ys)) zs
+head_left x xs y ys z zs zx zy =
     union_comm (union (x ∷ xs) (y ∷ ys)) (z ∷ zs)
-    ∙ front_right z zs x xs y ys zx zy
+    ∙ head_right z zs x xs y ys zx zy
     ∙ ap (λ l. z ∷ l) (union_comm zs (union (x ∷ xs) (y ∷ ys)))
 
--- Equal fronts become one.
-level_fronts : (d : ℕ) (ds : List ℕ) (e : ℕ) (es : List ℕ) → d ≡ e → union (d ∷ ds) (e ∷ es) ≡ d ∷ union ds es
-level_fronts d ds e es eq = ap (λ n. union (d ∷ ds) (n ∷ es)) (sym eq) ∙ same d ds es
+-- Equal heads become one.
+level_heads : (d : ℕ) (ds : List ℕ) (e : ℕ) (es : List ℕ) → d ≡ e → union (d ∷ ds) (e ∷ es) ≡ d ∷ union ds es
+level_heads d ds e es eq = ap (λ n. union (d ∷ ds) (n ∷ es)) (sym eq) ∙ same d ds es
 
 -- A union is associative, whatever the lists.
 union_assoc : (a b c : List ℕ) → union (union a b) c ≡ union a (union b c)
@@ -113,7 +113,7 @@ union_assoc (x ∷ xs) (y ∷ ys) (z ∷ zs) = by (order_of x y) (order_of x z) 
   where
     last : z < x → z < y → union (union (x ∷ xs) (y ∷ ys)) zs ≡ union (x ∷ xs) (union (y ∷ ys) zs) → union (union (x ∷ xs) (y ∷ ys)) (z ∷ zs) ≡ union (x ∷ xs) (union (y ∷ ys) (z ∷ zs))
     last zx zy ih =
-        front_left x xs y ys z zs zx zy
+        head_left x xs y ys z zs zx zy
         ∙ ap (λ l. z ∷ l) ih
         ∙ sym (higher x xs z (union (y ∷ ys) zs) zx)
         ∙ ap (λ l. union (x ∷ xs) l) (sym (higher y ys z zs zy))
@@ -131,29 +131,29 @@ union_assoc (x ∷ xs) (y ∷ ys) (z ∷ zs) = by (order_of x y) (order_of x z) 
         ap (λ l. union l (z ∷ zs)) (lower x xs y ys xy)
         ∙ lower x (union xs (y ∷ ys)) z zs xz
         ∙ ap (λ l. x ∷ l) ubc
-        ∙ sym (front_right x xs y ys z zs xy xz)
+        ∙ sym (head_right x xs y ys z zs xy xz)
     by (below xy) (level xz) yz abw avc avw ubc ubw uvc uvw =
         let zy : z < y = omega (arith, xy, xz) in
         ap (λ l. union l (z ∷ zs)) (lower x xs y ys xy)
-        ∙ level_fronts x (union xs (y ∷ ys)) z zs xz
+        ∙ level_heads x (union xs (y ∷ ys)) z zs xz
         ∙ ap (λ l. x ∷ l) ubw
-        ∙ sym (level_fronts x xs z (union (y ∷ ys) zs) xz)
+        ∙ sym (level_heads x xs z (union (y ∷ ys) zs) xz)
         ∙ ap (λ l. union (x ∷ xs) l) (sym (higher y ys z zs zy))
     by (below xy) (above zx) yz abw avc avw ubc ubw uvc uvw = last zx (omega (arith, xy, zx)) abw
     by (level xy) (below xz) yz abw avc avw ubc ubw uvc uvw =
         let below_z : y < z = omega (arith, xy, xz) in
-        ap (λ l. union l (z ∷ zs)) (level_fronts x xs y ys xy)
+        ap (λ l. union l (z ∷ zs)) (level_heads x xs y ys xy)
         ∙ lower x (union xs ys) z zs xz
         ∙ ap (λ l. x ∷ l) uvc
-        ∙ sym (level_fronts x xs y (union ys (z ∷ zs)) xy)
+        ∙ sym (level_heads x xs y (union ys (z ∷ zs)) xy)
         ∙ ap (λ l. union (x ∷ xs) l) (sym (lower y ys z zs below_z))
     by (level xy) (level xz) yz abw avc avw ubc ubw uvc uvw =
         let same_z : y ≡ z = omega (arith, xy, xz) in
-        ap (λ l. union l (z ∷ zs)) (level_fronts x xs y ys xy)
-        ∙ level_fronts x (union xs ys) z zs xz
+        ap (λ l. union l (z ∷ zs)) (level_heads x xs y ys xy)
+        ∙ level_heads x (union xs ys) z zs xz
         ∙ ap (λ l. x ∷ l) uvw
-        ∙ sym (level_fronts x xs y (union ys zs) xy)
-        ∙ ap (λ l. union (x ∷ xs) l) (sym (level_fronts y ys z zs same_z))
+        ∙ sym (level_heads x xs y (union ys zs) xy)
+        ∙ ap (λ l. union (x ∷ xs) l) (sym (level_heads y ys z zs same_z))
     by (level xy) (above zx) yz abw avc avw ubc ubw uvc uvw = last zx (omega (arith, xy, zx)) abw
     by (above yx) xz (below yz) abw avc avw ubc ubw uvc uvw =
         ap (λ l. union l (z ∷ zs)) (higher x xs y ys yx)
@@ -163,10 +163,10 @@ union_assoc (x ∷ xs) (y ∷ ys) (z ∷ zs) = by (order_of x y) (order_of x z) 
         ∙ ap (λ l. union (x ∷ xs) l) (sym (lower y ys z zs yz))
     by (above yx) xz (level yz) abw avc avw ubc ubw uvc uvw =
         ap (λ l. union l (z ∷ zs)) (higher x xs y ys yx)
-        ∙ level_fronts y (union (x ∷ xs) ys) z zs yz
+        ∙ level_heads y (union (x ∷ xs) ys) z zs yz
         ∙ ap (λ l. y ∷ l) avw
         ∙ sym (higher x xs y (union ys zs) yx)
-        ∙ ap (λ l. union (x ∷ xs) l) (sym (level_fronts y ys z zs yz))
+        ∙ ap (λ l. union (x ∷ xs) l) (sym (level_heads y ys z zs yz))
     by (above yx) xz (above zy) abw avc avw ubc ubw uvc uvw = last (omega (arith, yx, zy)) zy abw
 
 -- A number is at most 4294967295.

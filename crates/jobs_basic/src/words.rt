@@ -13,7 +13,7 @@ fn is_in_word(b: u8) -> bool
 // How many bytes of a text go on with a word that stands before it.
 fn word_length(text: &[u8]) -> usize
     ensures fits { result ≤ length text.now }
-    ensures word { (front : List ℕ) → words_behind front text.now ≡ word_before (front ++ take result text.now) (words_of (drop result text.now)) }
+    ensures word { (prefix : List ℕ) → words_behind prefix text.now ≡ word_before (prefix ++ take result text.now) (words_of (drop result text.now)) }
 {
     'bytes: for i in 0..text.len() {
         if !is_in_word(text[i]) {

@@ -16,8 +16,8 @@ window_next : (before rest : List ℕ) (b e : ℕ) → e ≡ length before + 1 �
 window_next before rest b e is h =
     let push = length_push before b in
     let all = length-append before (b ∷ rest) in
-    let front : take e (before ++ b ∷ rest) ≡ before ++ b ∷ [] = ap (take e) (sym (append_assoc before (b ∷ []) rest)) ∙ take_at (before ++ b ∷ []) rest e (omega arith) in
-    ap last_bytes (sym front) ∙ window_is (before ++ b ∷ rest) e h (omega arith)
+    let prefix : take e (before ++ b ∷ rest) ≡ before ++ b ∷ [] = ap (take e) (sym (append_assoc before (b ∷ []) rest)) ∙ take_at (before ++ b ∷ []) rest e (omega arith) in
+    ap last_bytes (sym prefix) ∙ window_is (before ++ b ∷ rest) e h (omega arith)
 
 both : (a b : Bool) → (a && b) ≡ true → (a ≡ true) × (b ≡ true)
 both true b e = (refl, e)

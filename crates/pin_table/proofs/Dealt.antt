@@ -6,7 +6,7 @@ use lib.ListN.{get_elem?}
 use Rattle.atomic_table.specs.Seated.{TableId}
 use Rattle.turn_lock.specs.Views.{PassView, unplayed}
 use Rattle.atomic_table.proofs.Lists.{at_last, at_longer}
-use Rattle.shared_seats.proofs.Lists.{front_all, last_all}
+use Rattle.shared_seats.proofs.Lists.{prefix_all, last_all}
 use Rattle.memo_server.specs.declared.turn.Turn.{Turn}
 use Rattle.pin_table.specs.Views.{CallerView, with_lock}
 use Rattle.pin_table.proofs.Places.{set-taken, read-at}
@@ -20,20 +20,20 @@ fresh-rest ps qs p is fresh i q at = fresh i q (ap (λ (l : List (PassView Turn)
 
 module _ (id : TableId) (ps qs : List (PassView Turn)) (p : PassView Turn) (is : ps ≡ qs ++ p ∷ []) (all : All (λ p. p.lock ≡ id) ps) where
   pub locks-rest : All (λ p. p.lock ≡ id) qs
-  locks-rest = front_all (λ (p : PassView Turn). p.lock ≡ id) ps qs p is all
+  locks-rest = prefix_all (λ (p : PassView Turn). p.lock ≡ id) ps qs p is all
 
   pub lock-last : p.lock ≡ id
   lock-last = last_all (λ (p : PassView Turn). p.lock ≡ id) ps qs p is all
 
-module _ (xs now : List CallerView) (n m : ℕ) (x : CallerView) (one : n + 1 ≡ m) (inside : n < length xs) (front : (i : ℕ) (d : CallerView) → i < m → get_or now i d ≡ get_or xs i d) (is : x ≡ get_or now n x) where
+module _ (xs now : List CallerView) (n m : ℕ) (x : CallerView) (one : n + 1 ≡ m) (inside : n < length xs) (prefix : (i : ℕ) (d : CallerView) → i < m → get_or now i d ≡ get_or xs i d) (is : x ≡ get_or now n x) where
   pub was : x ≡ get_or xs n x
-  was = is ∙ front n x (omega (arith, one))
+  was = is ∙ prefix n x (omega (arith, one))
 
   pub was-at : slice_get xs n ≡ Some x
   was-at = read-at xs n x inside was
 
-  pub front-rest : (y : CallerView) (i : ℕ) (d : CallerView) → i < n → get_or (set now n y) i d ≡ get_or xs i d
-  front-rest y i d lt = get_or-set_other now n i y d (λ (e : i ≡ n). omega (arith, e, lt)) ∙ front i d (omega (arith, one, lt))
+  pub prefix-rest : (y : CallerView) (i : ℕ) (d : CallerView) → i < n → get_or (set now n y) i d ≡ get_or xs i d
+  prefix-rest y i d lt = get_or-set_other now n i y d (λ (e : i ≡ n). omega (arith, e, lt)) ∙ prefix i d (omega (arith, one, lt))
 
   pub one-more : (id : TableId) (y : CallerView) → now ≡ take m xs ++ map (with_lock id) (drop m xs) → y ≡ with_lock id x → set now n y ≡ take n xs ++ map (with_lock id) (drop n xs)
   one-more id y before new =

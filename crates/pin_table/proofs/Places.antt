@@ -32,7 +32,7 @@ module _ {A : Type 0} where
   at-last (y ∷ xs) x c zero at = inl at
   at-last (y ∷ xs) x c (suc i) at = ⊎_elim (λ h. inl h) (λ h. inr (ap suc h.0, h.1)) (at-last xs x c i at)
 
-  -- the one after those at the front
+  -- the one after those at the head
   pub at-taken : (xs ys : List A) (n : ℕ) (d : A) → n < length xs → get_or (take (suc n) xs ++ ys) n d ≡ get_or xs n d
   at-taken [] ys n d lt = absurd (omega (arith, lt))
   at-taken (x ∷ xs) ys zero d lt = refl

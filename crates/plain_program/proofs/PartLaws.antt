@@ -22,9 +22,9 @@ first_of : (cs : List (List (List ℕ))) (rs : List (List ℕ)) → AreChunks cs
 first_of [] rs h j l = let e = ap length j in absurd (omega (arith, e, l))
 first_of ([] ∷ cs) rs h j l = absurd h.0
 first_of ((r ∷ c) ∷ cs) rs h j l =
-    let front : take (length (r ∷ c)) rs ≡ r ∷ c = ap (take (length (r ∷ c))) (sym j) ∙ take_left (r ∷ c) (joined cs) in
+    let prefix : take (length (r ∷ c)) rs ≡ r ∷ c = ap (take (length (r ∷ c))) (sym j) ∙ take_left (r ∷ c) (joined cs) in
     let back : drop (length (r ∷ c)) rs ≡ joined cs = ap (drop (length (r ∷ c))) (sym j) ∙ drop_left (r ∷ c) (joined cs) in
-    λ i. sym front i ∷ (sym (chunks_all cs h.1) ∙ ap chunks_of (sym back)) i
+    λ i. sym prefix i ∷ (sym (chunks_all cs h.1) ∙ ap chunks_of (sym back)) i
 
 -- the first chunk of what is left, and the chunks behind it
 pub chunk_next : (rs : List (List ℕ)) (from size : ℕ) → from < length rs → size ≡ first_length (chunks_of (drop from rs)) → chunks_of (drop from rs) ≡ take (from + size - from) (drop from rs) ∷ chunks_of (drop (from + size) rs)

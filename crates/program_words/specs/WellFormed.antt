@@ -26,7 +26,7 @@ abbrev pub begins_with_dash : Text → Bool
 begins_with_dash [] = false
 begins_with_dash (b ∷ bs) = b == 45
 
--- What stands behind the two dashes at a word's front.
+-- What stands behind the two dashes that a word begins with.
 abbrev pub behind_dashes : Text → Option Text
 behind_dashes (a ∷ b ∷ text) = if a == 45 && b == 45 then Some text else None
 behind_dashes word = None
@@ -46,7 +46,7 @@ option_in word = option_map name_and_value (behind_dashes word)
 abbrev pub Item : Type 0
 Item = Text × Text
 
--- One option more at the front.
+-- One option more, the first.
 abbrev pub with_item : Text → Text → Option (List Item) → Option (List Item)
 with_item name value = option_map (λ items. (name, value) ∷ items)
 

@@ -38,7 +38,7 @@ fn is_option(name: &[u8]) -> bool
         || name == b"gen".as_slice()
 }
 
-/// What stands behind the two dashes at a word's front.
+/// What stands behind the two dashes that a word begins with.
 fn behind_dashes(word: &[u8]) -> Option<&[u8]>
     ensures { option_map (λ text. text.now) result ≡ behind_dashes word.now }
 {

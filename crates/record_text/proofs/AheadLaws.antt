@@ -25,8 +25,8 @@ rest_is from bytes = take_all (length bytes - from) (drop from bytes) (omega (ar
 
 -- no LF in front of a place, and none from there on
 pub none_beyond : (bytes : List ℕ) (from end : ℕ) → NoneBefore from bytes → ((k : ℕ) → k < end → get_or (drop from bytes) k 0 ≢ 10) → NoneBefore (from + end) bytes
-none_beyond bytes from end front none k lt bad = elim (cases_lt k from) [
-  | inl before ↦ front k before bad
+none_beyond bytes from end prefix none k lt bad = elim (cases_lt k from) [
+  | inl before ↦ prefix k before bad
   | inr ge ↦ let e : from + (k - from) ≡ k = omega (arith, ge) in none (k - from) (omega (arith, lt, ge)) (get_drop from (k - from) bytes ∙ ap (λ (m : ℕ). get_or bytes m 0) e ∙ bad)
 ]
 

@@ -25,17 +25,17 @@ pieces_none (b ∷ bs) before =
     ∙ ap (with_byte b) (pieces_none bs (λ k h. before (suc k) (omega arith)))
 
 -- a first line, in front of what follows its LF
-pub pieces_front : (line rest : List ℕ) → All (λ b. b ≢ 10) line → pieces (line ++ 10 ∷ rest) ≡ (line ∷ (pieces rest).0, (pieces rest).1)
-pieces_front [] rest none = refl
-pieces_front (b ∷ bs) rest none =
+pub pieces_prefix : (line rest : List ℕ) → All (λ b. b ≢ 10) line → pieces (line ++ 10 ∷ rest) ≡ (line ∷ (pieces rest).0, (pieces rest).1)
+pieces_prefix [] rest none = refl
+pieces_prefix (b ∷ bs) rest none =
     pieces_byte b (bs ++ 10 ∷ rest) (none 0 0 (omega arith))
-    ∙ ap (with_byte b) (pieces_front bs rest (λ k d lt. none (suc k) d (omega arith)))
+    ∙ ap (with_byte b) (pieces_prefix bs rest (λ k d lt. none (suc k) d (omega arith)))
 
 -- the lines of a text are its records
 pub pieces-text_of : (records : List (List ℕ)) → AllRecords records → pieces (text_of records) ≡ (records, [])
 pieces-text_of [] all = refl
 pieces-text_of (r ∷ rs) all =
-    pieces_front r (text_of rs) (all 0 [] (omega arith)).1
+    pieces_prefix r (text_of rs) (all 0 [] (omega arith)).1
     ∙ ap (λ (p : List (List ℕ) × List ℕ). (r ∷ p.0, p.1)) (pieces-text_of rs (λ k d lt. all (suc k) d (omega arith)))
 
 -- the text determines the records

@@ -283,12 +283,12 @@ module _ (s t : Reading) (l m : Option (List ℕ)) (open' : s.ended ≡ false) w
 
 -- a look takes one piece more where the next line is not held
 pub line_more : {S : Type 0} (a b c : S) (r s t : Reading) → s.ended ≡ false → Lacks s.ahead → take (length s.ahead) t.ahead ≡ s.ahead → length t.ahead ≤ length s.ahead + 65536 → TakenWhere Lacks a b r s [] → TakenWhere Lacks a c r t []
-line_more a b c r s t open' lack front most before = taken_then Lacks a b c r s [] Lacks t [] (λ _ x l. l) before (inr (
+line_more a b c r s t open' lack prefix most before = taken_then Lacks a b c r s [] Lacks t [] (λ _ x l. l) before (inr (
   open',
   record {
     first = [];
     last = drop (length s.ahead) t.ahead;
-    bytes = sym (take-append-drop (length s.ahead) t.ahead) ∙ ap (λ (l : List ℕ). l ++ drop (length s.ahead) t.ahead) front;
+    bytes = sym (take-append-drop (length s.ahead) t.ahead) ∙ ap (λ (l : List ℕ). l ++ drop (length s.ahead) t.ahead) prefix;
     piece = omega (arith, length-drop (length s.ahead) t.ahead, most);
     lacked = subst Lacks (sym (append-nil s.ahead)) lack;
   },

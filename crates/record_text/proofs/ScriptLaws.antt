@@ -201,7 +201,7 @@ module _ (ahead : List ℕ) (i : ℕ) (within : i ≤ length ahead) (before : (k
   pub whole : (ended : Bool) → i < length ahead → i < 65536 → IsLine ended ahead i (i + 1)
   whole ended lt short = record {
     within = omega arith;
-    front = omega arith;
+    prefix = omega arith;
     some = omega arith;
     fits = (omega (arith, length-take i ahead), all_before ahead i within before);
     ends = λ e. line_pieces (take (i + 1) ahead) i (u_len lt) (λ k h is. before k h (sym (u_get k lt (omega arith)) ∙ is)) (u_get i lt (omega arith) ∙ found lt);
@@ -213,7 +213,7 @@ module _ (ahead : List ℕ) (i : ℕ) (within : i ≤ length ahead) (before : (k
   pub last : length ahead ≤ i → i < 65536 → (i ≡ 0 → ⊥) → IsLine true ahead i i
   last ge short some = record {
     within = within;
-    front = omega arith;
+    prefix = omega arith;
     some = omega (arith, some);
     fits = (omega (arith, length-take i ahead), all_before ahead i within before);
     ends = λ e. absurd (subst IsTrueTest e tt);

@@ -17,13 +17,13 @@ cuts-append : (text more : List ℕ) (spans : List Span) → All (LiesIn (length
 cuts-append text more [] all = refl
 cuts-append text more (s ∷ spans) all = λ i. cut-append text more s (all 0 s (omega arith)) i ∷ cuts-append text more spans (λ k d lt. all (suc k) d (omega arith)) i
 
-drop_front : (a b : List ℕ) → drop (length a) (a ++ b) ≡ b
-drop_front [] b = refl
-drop_front (x ∷ a) b = drop_front a b
+drop_prefix : (a b : List ℕ) → drop (length a) (a ++ b) ≡ b
+drop_prefix [] b = refl
+drop_prefix (x ∷ a) b = drop_prefix a b
 
-take_front : (a b : List ℕ) → take (length a) (a ++ b) ≡ a
-take_front [] b = refl
-take_front (x ∷ a) b = ap (λ (l : List ℕ). x ∷ l) (take_front a b)
+take_prefix : (a b : List ℕ) → take (length a) (a ++ b) ≡ a
+take_prefix [] b = refl
+take_prefix (x ∷ a) b = ap (λ (l : List ℕ). x ∷ l) (take_prefix a b)
 
 cuts_push : (text : List ℕ) (spans : List Span) (s : Span) → cuts text (spans ++ s ∷ []) ≡ cuts text spans ++ cut text s ∷ []
 cuts_push text [] s = refl
@@ -51,8 +51,8 @@ module _ (text : List ℕ) (spans : List Span) (is : IsText text spans) (bytes :
       let n : s.to - s.from ≡ length bytes = omega (arith, from, to) in
       (λ i. take (n i) (drop (from i) grown))
       ∙ ap (λ (l : List ℕ). take (length bytes) (drop (length text) l)) (append_assoc text bytes (10 ∷ []))
-      ∙ ap (λ (l : List ℕ). take (length bytes) l) (drop_front text (bytes ++ 10 ∷ []))
-      ∙ take_front bytes (10 ∷ [])
+      ∙ ap (λ (l : List ℕ). take (length bytes) l) (drop_prefix text (bytes ++ 10 ∷ []))
+      ∙ take_prefix bytes (10 ∷ [])
 
   pub cuts-push : cuts grown (spans ++ s ∷ []) ≡ cuts text spans ++ bytes ∷ []
   cuts-push =

@@ -7,7 +7,7 @@ use Rattle.record_text.specs.Names.{most_name}
 use Rattle.record_text.specs.declared.script_fault.Why.{Why}
 use Rattle.record_text.specs.declared.script_fault.Why.TheVariants.{Unknown, BadNumber, BadName}
 
--- One byte more at the front of the first field.
+-- One byte more at the head of the first field.
 abbrev pub field_with : ℕ → List (List ℕ) → List (List ℕ)
 field_with b [] = (b ∷ []) ∷ []
 field_with b (f ∷ fs) = (b ∷ f) ∷ fs

@@ -2,7 +2,7 @@
 use Rattle.std.specs.Prelude.{◌≡◌, ℕ, ◌==◌, if◌then◌else◌, List, [], ◌∷◌}
 use Rattle.definitions.specs.Records.{text_of}
 
--- One byte more at the front of the first line, or of the rest where no line ends.
+-- One byte more at the head of the first line, or of the rest where no line ends.
 abbrev pub with_byte : ℕ → List (List ℕ) × List ℕ → List (List ℕ) × List ℕ
 with_byte b ([], rest) = ([], b ∷ rest)
 with_byte b (l ∷ ls, rest) = ((b ∷ l) ∷ ls, rest)

@@ -27,7 +27,7 @@ Comes ended room full x = (ended ≡ true → (full ≡ false) × (x ≡ [])) ×
 -- The first `n` bytes ahead are a line, which its line end makes `skip`.
 pub record IsLine (ended : Bool) (ahead : List ℕ) (n skip : ℕ) : Type 0 where
   pub within : skip ≤ length ahead
-  pub front : n ≤ skip
+  pub prefix : n ≤ skip
   pub some : 0 < skip
   pub fits : IsRecord (take n ahead)
   pub ends : ended ≡ false → EndsLine (take skip ahead)

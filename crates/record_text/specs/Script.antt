@@ -19,7 +19,7 @@ pub data Ending : Type 0 where
 abbrev pub Script : Type 0
 Script = List (Command × ℕ) × Ending
 
--- A script with one command more at its front.
+-- A script with one command more at its head.
 abbrev pub with_command : Command × ℕ → Script → Script
 with_command c s = (c ∷ s.0, s.1)
 

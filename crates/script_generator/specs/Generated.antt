@@ -32,7 +32,7 @@ with_drawn m d = record { text = d.text ++ decimal (drawn m d.state); state = ne
 
 -- A field: these bytes, and a drawn number behind them.
 unfoldable pub with_field : List ℕ → ℕ → Draft → Draft
-with_field front m d = d ▷ with_bytes front ▷ with_drawn m
+with_field prefix m d = d ▷ with_bytes prefix ▷ with_drawn m
 
 -- Eight words, with a space between.
 unfoldable pub with_words : Draft → Draft

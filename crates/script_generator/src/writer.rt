@@ -74,11 +74,11 @@ impl Writer {
 
     /// Writes bytes and a drawn number behind them.
     #[tactic(auto, unfolding(crate::specs::Generated::with_field))]
-    pub(crate) fn field(&mut self, front: &[u8], limit: u64) -> Result<(), AllocError>
+    pub(crate) fn field(&mut self, prefix: &[u8], limit: u64) -> Result<(), AllocError>
         requires { 0 < limit }
-        ensures { OnOk result (self.new ≡ with_field front.now limit self.old) }
+        ensures { OnOk result (self.new ≡ with_field prefix.now limit self.old) }
     {
-        self.bytes(front)?;
+        self.bytes(prefix)?;
         self.drawn(limit)
     }
 

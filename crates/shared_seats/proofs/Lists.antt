@@ -54,11 +54,11 @@ module _ {A : Type 0} where
   from_all P l h k d lt = let q = h k lt in subst P (sym (get_at l k q.0 d q.1)) q.2
 
   -- What holds of all holds of all but the last, and of the last.
-  pub front_all : (P : A → Type 0) (all front : List A) (y : A) → all ≡ front ++ y ∷ [] → All P all → All P front
-  front_all P all front y e h k d lt = subst P (ap (λ (l : List A). get_or l k d) e ∙ get_or_append_left front (y ∷ []) d k lt) (h k d (let l : length all ≡ length front + 1 = ap length e ∙ length-append front (y ∷ []) in omega arith))
+  pub prefix_all : (P : A → Type 0) (all prefix : List A) (y : A) → all ≡ prefix ++ y ∷ [] → All P all → All P prefix
+  prefix_all P all prefix y e h k d lt = subst P (ap (λ (l : List A). get_or l k d) e ∙ get_or_append_left prefix (y ∷ []) d k lt) (h k d (let l : length all ≡ length prefix + 1 = ap length e ∙ length-append prefix (y ∷ []) in omega arith))
 
-  pub last_all : (P : A → Type 0) (all front : List A) (y : A) → all ≡ front ++ y ∷ [] → All P all → P y
-  last_all P all front y e h = subst P (ap (λ (l : List A). get_or l (length front) y) e ∙ get_or-append_seam front y [] y) (h (length front) y (let l : length all ≡ length front + 1 = ap length e ∙ length-append front (y ∷ []) in omega arith))
+  pub last_all : (P : A → Type 0) (all prefix : List A) (y : A) → all ≡ prefix ++ y ∷ [] → All P all → P y
+  last_all P all prefix y e h = subst P (ap (λ (l : List A). get_or l (length prefix) y) e ∙ get_or-append_seam prefix y [] y) (h (length prefix) y (let l : length all ≡ length prefix + 1 = ap length e ∙ length-append prefix (y ∷ []) in omega arith))
 
 -- Sums.
 

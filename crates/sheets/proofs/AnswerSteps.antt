@@ -28,8 +28,8 @@ module _ {V : Type 0} (text : List ℕ → V → List ℕ) where
     rest = append_assoc w.gain (text e.0 e.1) (lines_of text u) ∙ w.rest;
   }
 
-  pub written-front : (old new all : List ℕ) (u : List (List ℕ × V)) → Written old new all u → GainsPrefix all old new
-  written-front old new all u w = (w.gain, (lines_of text u, sym w.rest), w.is)
+  pub written-prefix : (old new all : List ℕ) (u : List (List ℕ × V)) → Written old new all u → GainsPrefix all old new
+  written-prefix old new all u w = (w.gain, (lines_of text u, sym w.rest), w.is)
 
   pub written-cut : (old new newer all : List ℕ) (e : List ℕ × V) (u : List (List ℕ × V)) → Written old new all (e ∷ u) → GainsPrefix (text e.0 e.1) new newer → GainsPrefix all old newer
   written-cut old new newer all e u w cut = (

@@ -23,8 +23,8 @@ use Rattle.program_words.specs.Usages.{line_for}
 use Rattle.slider_program.specs.Program.{Outside, Seen, Jobs, Tries, SumsUp, ScriptAnswered, AnsweredBy, AnsweredFor, Ran, first_window, generated_by}
 
 -- a whole output is a prefix of itself
-front_of : {V : Type 0} (j : Meaning V) (w : WindowState) (old new : Seen) (script : List ℕ) → Writes j w most_script script old.out.bytes new.out.bytes → WritesPrefix j w most_script script old.out.bytes new.out.bytes
-front_of j w old new script written = told_with old.out.bytes new.out.bytes _ (GainsPrefix (output_of j w (commands most_script script))) written
+prefix_of : {V : Type 0} (j : Meaning V) (w : WindowState) (old new : Seen) (script : List ℕ) → Writes j w most_script script old.out.bytes new.out.bytes → WritesPrefix j w most_script script old.out.bytes new.out.bytes
+prefix_of j w old new script written = told_with old.out.bytes new.out.bytes _ (GainsPrefix (output_of j w (commands most_script script))) written
     (λ x y c d wrote. (output_of j w (commands most_script script), ([], sym (append-nil (output_of j w (commands most_script script)))), wrote))
 
 module _ {V : Type 0} (j : Meaning V) (w : WindowState) (old new : Seen) (status line : ℕ) (why : Why) (served : Told old.source.bytes new.source.bytes (λ script after. AtFault j w most_script line why script old.out.bytes new.out.bytes)) where
@@ -42,7 +42,7 @@ module _ {V : Type 0} (j : Meaning V) (w : WindowState) (old new : Seen) (status
     fault = λ e. (line, why, served, tried e);
     read = λ e. neither 4 (λ h. cc) (λ h. cc) known e;
     write = λ e. neither 5 (λ h. cc) (λ h. cc) known e;
-    prefix = told_with old.source.bytes new.source.bytes _ (λ script after. WritesPrefix j w most_script script old.out.bytes new.out.bytes) served (λ script after a b at. front_of j w old new script at.1);
+    prefix = told_with old.source.bytes new.source.bytes _ (λ script after. WritesPrefix j w most_script script old.out.bytes new.out.bytes) served (λ script after a b at. prefix_of j w old new script at.1);
     said = told_with old.source.bytes new.source.bytes _ (λ script after. Told old.err.bytes new.err.bytes (GainsPrefix (end_line (ending_of j w (commands most_script script))))) served (λ script after a b at.
         subst (λ (e : Ending). Told old.err.bytes new.err.bytes (GainsPrefix (end_line e))) (sym at.0) prefix);
     known = some_status known;
@@ -57,7 +57,7 @@ module _ {V : Type 0} (j : Meaning V) (w : WindowState) (old new : Seen) (quiet 
 
   -- the prefix of the output that was written where all of it was
   of_whole : Told old.source.bytes new.source.bytes (λ script after. Whole j w most_script script after old.out.bytes new.out.bytes) → Told old.source.bytes new.source.bytes (λ script after. WritesPrefix j w most_script script old.out.bytes new.out.bytes)
-  of_whole served = told_with old.source.bytes new.source.bytes _ (λ script after. WritesPrefix j w most_script script old.out.bytes new.out.bytes) served (λ script after a b at. front_of j w old new script at.2)
+  of_whole served = told_with old.source.bytes new.source.bytes _ (λ script after. WritesPrefix j w most_script script old.out.bytes new.out.bytes) served (λ script after a b at. prefix_of j w old new script at.2)
 
   module _ (prefix : Told old.source.bytes new.source.bytes (λ script after. WritesPrefix j w most_script script old.out.bytes new.out.bytes)) where
     nothing_said : Told old.source.bytes new.source.bytes (λ script after. Told old.err.bytes new.err.bytes (GainsPrefix (end_line (ending_of j w (commands most_script script)))))

@@ -117,8 +117,8 @@ module _ {V : Type 0} (j : Meaning V) (w : WindowState) (most : ℕ) (fresh : Re
         the_fault t (inr (inr is)) = is
 
     -- what was written is a prefix of the output
-    pub at_front : Told left later (λ l m. Unit {0}) → Told first later (λ script after. Told before now (GainsPrefix (output_of j w (commands most script))))
-    at_front told =
+    pub at_prefix : Told left later (λ l m. Unit {0}) → Told first later (λ script after. Told before now (GainsPrefix (output_of j w (commands most script))))
+    at_prefix told =
         told_with first later _ _ (told_then first left later (λ script l. outcome_of j w (commands most script) ≡ after_bytes s.gain (walk j (h.runs + 1) (state_of h) (to_come r l))) (λ l m. Unit {0}) (λ script m. IsPrefix s.gain (output_of j w (commands most script)))
         (λ x y z p q. ((walk j (h.runs + 1) (state_of h) (to_come r y)).0, ap (λ (o : Outcome). o.0) p)) s.walks told)
         (λ script after a b prefix. told_with before now (λ old new. new ≡ old ++ s.gain) (GainsPrefix (output_of j w (commands most script))) s.written (λ old new c d wrote. (s.gain, prefix, wrote)))
@@ -228,7 +228,7 @@ module _ {V : Type 0} (j : Meaning V) (w : WindowState) (most : ℕ) (fresh : Re
     rose_later first.faults left.faults rest.faults later (failed is),
   )
   at_stop none room open' fault Halts.Write is later failed told took = absurd is
-  at_stop none room open' fault Halts.Mem is later failed told took = at_front j w most fresh h r first.bytes left.bytes before.bytes now.bytes s rest.bytes (told_with left.bytes rest.bytes _ (λ l m. Unit {0}) told (λ x y a b p. tt))
+  at_stop none room open' fault Halts.Mem is later failed told took = at_prefix j w most fresh h r first.bytes left.bytes before.bytes now.bytes s rest.bytes (told_with left.bytes rest.bytes _ (λ l m. Unit {0}) told (λ x y a b p. tt))
 
   -- a step stopped
   pub at_halt : (new : SessionView) (c : Command) (wrote : DeviceView) (halt : Halt) → before.faults ≤ now.faults → Told left.bytes rest.bytes (λ l m. NextTold (to_come r l) (to_come next m) next.last (Ok (Some c))) → ComesTo j h new c next.last now wrote (Err halt) → EndsSo j w most first rest before wrote (Err halt)

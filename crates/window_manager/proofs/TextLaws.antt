@@ -29,8 +29,8 @@ pub size_cut : (n : ℕ) (leaves : List Leaf) → text_size (take n leaves) + te
 size_cut n leaves = sym (size_append (take n leaves) (drop n leaves)) ∙ ap text_size (take-append-drop n leaves)
 
 -- one leaf more among the first
-pub size_front : (leaves : List Leaf) (i : ℕ) (leaf : Leaf) → i < length leaves → leaf ≡ get_or leaves i leaf → text_size (take (i + 1) leaves) ≡ text_size (take i leaves) + length (text_of leaf)
-size_front leaves i leaf lt is =
+pub size_prefix : (leaves : List Leaf) (i : ℕ) (leaf : Leaf) → i < length leaves → leaf ≡ get_or leaves i leaf → text_size (take (i + 1) leaves) ≡ text_size (take i leaves) + length (text_of leaf)
+size_prefix leaves i leaf lt is =
     ap text_size (take_more leaves i leaf lt) ∙ size_append (take i leaves) (get_or leaves i leaf ∷ [])
     ∙ ap (λ (l : Leaf). text_size (take i leaves) + text_size (l ∷ [])) (sym is)
     ∙ ap (λ (n : ℕ). text_size (take i leaves) + n) (size_one leaf)
@@ -65,4 +65,4 @@ late_set (suc place) more (l ∷ leaves) leaf lt is = ap (λ (ls : List Leaf). l
 
 -- one leaf has no more text than all
 pub size_part : (leaves : List Leaf) (i : ℕ) (leaf : Leaf) → i < length leaves → leaf ≡ get_or leaves i leaf → length (text_of leaf) ≤ text_size leaves
-size_part leaves i leaf lt is = omega (arith, size_front leaves i leaf lt is, size_cut (i + 1) leaves)
+size_part leaves i leaf lt is = omega (arith, size_prefix leaves i leaf lt is, size_cut (i + 1) leaves)

@@ -25,16 +25,16 @@ one_same k n e = ap (λ (b : Bool). cond b 1 0) (eq-eqb k n e)
 pub times_one : {T : Type 0} (k : ℕ) (given : List (ℕ × T)) (i : ℕ) (t : T) → get_elem? given i ≡ some (k, t) → times k given ≤ 1 → times k given ≡ 1
 times_one k given i t at most = let a = one_of (λ (g : ℕ × _). one_if k g.0) given i (k, t) at in let b = one_same k k refl in omega arith
 
-module _ {T : Type 0} (k : ℕ) (all front : List (HandView T)) (p : HandView T) (given : List (ℕ × T)) where
+module _ {T : Type 0} (k : ℕ) (all prefix : List (HandView T)) (p : HandView T) (given : List (ℕ × T)) where
   -- one hand leaves the others
-  pub times_first : all ≡ front ++ p ∷ [] → given ≡ p.given → times k given + times_by k front ≡ times_by k all
-  times_first e is = let a : times_by k all ≡ times_by k (front ++ p ∷ []) = ap (times_by k) e in let b : times k given ≡ times k p.given = ap (times k) is in
-      let d = total_snoc (λ (h : HandView T). times k h.given) front p in omega arith
+  pub times_first : all ≡ prefix ++ p ∷ [] → given ≡ p.given → times k given + times_by k prefix ≡ times_by k all
+  times_first e is = let a : times_by k all ≡ times_by k (prefix ++ p ∷ []) = ap (times_by k) e in let b : times k given ≡ times k p.given = ap (times k) is in
+      let d = total_snoc (λ (h : HandView T). times k h.given) prefix p in omega arith
 
   -- and is joined into the first
-  pub times_next : (old : List (ℕ × T)) (n : ℕ) → all ≡ front ++ p ∷ [] → given ≡ old ++ p.given → times k old + times_by k all ≡ n → times k given + times_by k front ≡ n
-  times_next old n e is sum = let a : times_by k all ≡ times_by k (front ++ p ∷ []) = ap (times_by k) e in let b : times k given ≡ times k (old ++ p.given) = ap (times k) is in
-      let d = total_snoc (λ (h : HandView T). times k h.given) front p in let f = total_append (λ (g : ℕ × T). one_if k g.0) old p.given in omega arith
+  pub times_next : (old : List (ℕ × T)) (n : ℕ) → all ≡ prefix ++ p ∷ [] → given ≡ old ++ p.given → times k old + times_by k all ≡ n → times k given + times_by k prefix ≡ n
+  times_next old n e is sum = let a : times_by k all ≡ times_by k (prefix ++ p ∷ []) = ap (times_by k) e in let b : times k given ≡ times k (old ++ p.given) = ap (times k) is in
+      let d = total_snoc (λ (h : HandView T). times k h.given) prefix p in let f = total_append (λ (g : ℕ × T). one_if k g.0) old p.given in omega arith
 
 pub one_other : (k n : ℕ) → k ≢ n → one_if k n ≡ 0
 one_other k n ne = ap (λ (b : Bool). cond b 1 0) (ne_eqb k n ne)

@@ -7,7 +7,7 @@ use Rattle.chunk_store.proofs.file_list.fill.Goals as goal
 
 pub file_begin-end-requires : goal.file_begin-end-requires
 file_begin-end-requires c =
-    let cut : c.as_slice.result.now ≡ ends_of 0 (take c.args.from c.args.files.now) = c.as_slice.ensures.value ∙ c.truncate.ensures.items ∙ c.requires.front in
+    let cut : c.as_slice.result.now ≡ ends_of 0 (take c.args.from c.args.files.now) = c.as_slice.ensures.value ∙ c.truncate.ensures.items ∙ c.requires.prefix in
     let size = ap length cut ∙ ends_length 0 (take c.args.from c.args.files.now) in
     let part = length-take-le c.args.from c.args.files.now c.requires.within in
     omega arith

@@ -6,12 +6,12 @@ use Rattle.chunk_store.proofs.Together.{count_insert}
 use Rattle.chunk_store.proofs.Ends.{ends_length, ends_take}
 use Rattle.chunk_store.proofs.file_list.insert.Goals as goal
 
-pub fill-requires-clause-front : goal.fill-requires-clause-front
-fill-requires-clause-front c =
+pub fill-requires-clause-prefix : goal.fill-requires-clause-prefix
+fill-requires-clause-prefix c =
     let items : c.as_slice.result.now ≡ take c.args.i c.args.files.now.items ++ (c.args.name, c.args.document) ∷ drop c.args.i c.args.files.now.items = c.as_slice.ensures.value ∙ c.in-Ok-insert.ensures.items in
-    let front : take c.args.i c.as_slice.result.now ≡ take c.args.i c.args.files.now.items =
+    let prefix : take c.args.i c.as_slice.result.now ≡ take c.args.i c.args.files.now.items =
     ap (take c.args.i) items ∙ take_at (take c.args.i c.args.files.now.items) ((c.args.name, c.args.document) ∷ drop c.args.i c.args.files.now.items) c.args.i (length-take-le c.args.i c.args.files.now.items c.requires.within) in
-    ap (take c.args.i) (c.try_reserve.ensures.items ∙ c.requires.ends) ∙ ends_take 0 c.args.files.now.items c.args.i ∙ ap (ends_of 0) (sym front)
+    ap (take c.args.i) (c.try_reserve.ensures.items ∙ c.requires.ends) ∙ ends_take 0 c.args.files.now.items c.args.i ∙ ap (ends_of 0) (sym prefix)
 
 pub fill-requires-clause-room : goal.fill-requires-clause-room
 fill-requires-clause-room c =

@@ -13,13 +13,13 @@ fill-requires-clause-within c =
     let b = length-take-le c.args.i c.args.files.now.items (omega arith) in
     omega arith
 
-pub fill-requires-clause-front : goal.fill-requires-clause-front
-fill-requires-clause-front c =
+pub fill-requires-clause-prefix : goal.fill-requires-clause-prefix
+fill-requires-clause-prefix c =
     let f : File = get_or c.args.files.now.items c.args.i ([], []) in
-    let front : take c.args.i c.as_slice.result.now ≡ take c.args.i c.args.files.now.items =
+    let prefix : take c.args.i c.as_slice.result.now ≡ take c.args.i c.args.files.now.items =
     ap (take c.args.i) (c.as_slice.ensures.value ∙ c.drop_empty.ensures ([], []))
     ∙ take_at (take c.args.i c.args.files.now.items) (file_of f.0 f.1 ++ drop (c.args.i + 1) c.args.files.now.items) c.args.i (length-take-le c.args.i c.args.files.now.items (omega arith)) in
-    c.requires.front ∙ ap (ends_of 0) (sym front)
+    c.requires.prefix ∙ ap (ends_of 0) (sym prefix)
 
 pub fill-requires-clause-room : goal.fill-requires-clause-room
 fill-requires-clause-room c =

@@ -6,12 +6,12 @@ use Rattle.chunk_store.proofs.Together.{all_append, all_at}
 use Rattle.chunk_store.proofs.Ends.{ends_length, ends_take}
 use Rattle.chunk_store.proofs.file_list.take_out.Goals as goal
 
-pub fill-requires-clause-front : goal.fill-requires-clause-front
-fill-requires-clause-front c =
+pub fill-requires-clause-prefix : goal.fill-requires-clause-prefix
+fill-requires-clause-prefix c =
     let items : c.as_slice.result.now ≡ take c.args.i c.args.files.now.items ++ drop (c.args.i + 1) c.args.files.now.items = c.as_slice.ensures.value ∙ c.remove.ensures.by_index.2 in
-    let front : take c.args.i c.as_slice.result.now ≡ take c.args.i c.args.files.now.items =
+    let prefix : take c.args.i c.as_slice.result.now ≡ take c.args.i c.args.files.now.items =
     ap (take c.args.i) items ∙ take_at (take c.args.i c.args.files.now.items) (drop (c.args.i + 1) c.args.files.now.items) c.args.i (length-take-le c.args.i c.args.files.now.items (omega arith)) in
-    ap (take c.args.i) c.requires.ends ∙ ends_take 0 c.args.files.now.items c.args.i ∙ ap (ends_of 0) (sym front)
+    ap (take c.args.i) c.requires.ends ∙ ends_take 0 c.args.files.now.items c.args.i ∙ ap (ends_of 0) (sym prefix)
 
 pub fill-requires-clause-room : goal.fill-requires-clause-room
 fill-requires-clause-room c =

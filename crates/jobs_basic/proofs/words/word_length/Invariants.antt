@@ -3,4 +3,4 @@ use Rattle.definitions.specs.Records.{words_behind}
 use Rattle.jobs_basic.proofs.words.word_length.Given as goal
 
 abbrev pub invariant-bytes : goal.invariant-bytes
-invariant-bytes l = (front : List ℕ) → words_behind front l.text ≡ words_behind (front ++ take l.i l.text) (drop l.i l.text)
+invariant-bytes l = (prefix : List ℕ) → words_behind prefix l.text ≡ words_behind (prefix ++ take l.i l.text) (drop l.i l.text)

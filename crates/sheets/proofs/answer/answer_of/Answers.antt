@@ -4,7 +4,7 @@ use Rattle.definitions.specs.Tables.{IsRising, HasGoodValues}
 use Rattle.definitions.specs.Outside.{GainsPrefix}
 use Rattle.definitions.specs.Answer.{lines_of}
 use Rattle.sheets.specs.United.{Apart, united}
-use Rattle.sheets.proofs.AnswerSteps.{Written, written-first, written-front, written-cut, written-end, united-nothing, first_taken, rest_is}
+use Rattle.sheets.proofs.AnswerSteps.{Written, written-first, written-prefix, written-cut, written-end, united-nothing, first_taken, rest_is}
 use Rattle.sheets.proofs.answer.answer_of.Goals as goal
 
 pub returns-in_default-clause-ok : goal.returns-in_default-clause-ok
@@ -50,7 +50,7 @@ returns-in-None-clause-err g c =
     let all = lines_of text (united c.in-Ok.rests.items) in
     let written = written-first text c.args.out.now.items c.entries.out.items c.line.new.out.items all e (united (slice_set ts c.in-Some.i t)) (subst (Written text c.args.out.now.items c.entries.out.items all) left.union inv.written) c.in-Ok-line.ensures.ok in
     subst (λ tables. GainsPrefix (lines_of text (united tables)) c.args.out.now.items c.line.new.out.items) c.in-Ok.ensures.tables
-    (written-front text c.args.out.now.items c.line.new.out.items all (united (slice_set ts c.in-Some.i t)) written)
+    (written-prefix text c.args.out.now.items c.line.new.out.items all (united (slice_set ts c.in-Some.i t)) written)
 
 pub entries-smaller : goal.entries-smaller
 entries-smaller g c =

@@ -9,18 +9,18 @@ use Rattle.window_manager.proofs.late_places.add_place.Goals as goal
 pub places-preserved : goal.places-preserved
 places-preserved c =
     let ps = c.args.places.now in let i = c.places.i in let p = c.get-other.result in let place = c.args.place in let inv = c.places.invariant in
-    let front = filter (λ q. nat_lt q place) ps in let back = filter (λ q. nat_lt place q) (take i ps) in
+    let prefix = filter (λ q. nat_lt q place) ps in let back = filter (λ q. nat_lt place q) (take i ps) in
     let lt : i < length ps = omega (arith, c.places-test.true, c.len-i-end.ensures.count) in
     elim c.if-place-other.branch [
       | then-place-other+in_ok-push-2 w ↦
           let pushed = w.more-is ∙ w.in_ok-push-2.ensures.ok in record {
-            value = pushed ∙ ap (λ (l : List ℕ). l ++ p ∷ []) inv.value ∙ append_assoc front (place ∷ back) (p ∷ []) ∙ ap (λ (l : List ℕ). front ++ place ∷ l) (sym (filter_takes ps i p lt c.get-other.ensures (λ q. nat_lt place q) (nat_below place p (omega (arith, w.if-place-other)))));
+            value = pushed ∙ ap (λ (l : List ℕ). l ++ p ∷ []) inv.value ∙ append_assoc prefix (place ∷ back) (p ∷ []) ∙ ap (λ (l : List ℕ). prefix ++ place ∷ l) (sym (filter_takes ps i p lt c.get-other.ensures (λ q. nat_lt place q) (nat_below place p (omega (arith, w.if-place-other)))));
             below = λ q above all.
                 let f = all_first ps i p q lt c.get-other.ensures all in
                 subst (λ (l : List ℕ). All (λ x. x < q) l) (sym pushed) (all_push q p c.places.more f.1 (inv.below q above f.0));
           }
       | else-place-other w ↦ record {
-        value = w.more-is ∙ inv.value ∙ ap (λ (l : List ℕ). front ++ place ∷ l) (sym (filter_skips ps i p lt c.get-other.ensures (λ q. nat_lt place q) (nat_not_below place p (omega (arith, w.if-place-other)))));
+        value = w.more-is ∙ inv.value ∙ ap (λ (l : List ℕ). prefix ++ place ∷ l) (sym (filter_skips ps i p lt c.get-other.ensures (λ q. nat_lt place q) (nat_not_below place p (omega (arith, w.if-place-other)))));
         below = λ q above all.
             let f = all_first ps i p q lt c.get-other.ensures all in
             subst (λ (l : List ℕ). All (λ x. x < q) l) (sym w.more-is) (inv.below q above f.0);

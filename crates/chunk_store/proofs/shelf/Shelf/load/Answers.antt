@@ -7,7 +7,7 @@ use Rattle.chunk_store.specs.Files.{File, all_chunks, file_at, raised, with_file
 use Rattle.chunk_store.proofs.Ends.{ends_length}
 use Rattle.chunk_store.proofs.Together.{split_at, whole_splice, before_at}
 use Rattle.chunk_store.proofs.Refusals.{not_less, answers_map, text_cut, spliced_files, cut_is}
-use Rattle.chunk_store.proofs.Changes.{file_is, text_beside, some_at, front_set, length_ends, small_set, settled_is, shelf_at}
+use Rattle.chunk_store.proofs.Changes.{file_is, text_beside, some_at, prefix_set, length_ends, small_set, settled_is, shelf_at}
 use Rattle.chunk_store.proofs.shelf.Shelf.load.Goals as goal
 
 pub file_begin-begin-requires : goal.file_begin-begin-requires
@@ -31,8 +31,8 @@ returns-in-Err-load_beside-clause-answers c =
     subst (λ (x : List File). Answers (IsOneTooMany c.args.records.now c.args.name.now x) (268435456 < text_size (all_chunks (with_file c.args.name.now (chunks_of c.args.records.now) x))) (Err c.in-Err-load_beside.fault)) c.self.view_is
     (answers_map (Err c.in-Err-load_beside.fault) (λ n. absurd n) full (λ l. omega arith) (λ l. omega arith) c.in-Err-load_beside.ensures.answers)
 
-pub settle-requires-clause-front : goal.settle-requires-clause-front
-settle-requires-clause-front c = front_set c.self.inside.files.items c.self.inside.ends.items c.in-Ok.i (c.index_mut.result.now.0, c.load_beside.new.self) c.self.invariant.ended
+pub settle-requires-clause-prefix : goal.settle-requires-clause-prefix
+settle-requires-clause-prefix c = prefix_set c.self.inside.files.items c.self.inside.ends.items c.in-Ok.i (c.index_mut.result.now.0, c.load_beside.new.self) c.self.invariant.ended
 
 pub settle-requires-clause-ends : goal.settle-requires-clause-ends
 settle-requires-clause-ends c = length_ends c.self.inside.files.items c.self.inside.ends.items c.in-Ok.i (c.index_mut.result.now.0, c.load_beside.new.self) c.self.invariant.ended

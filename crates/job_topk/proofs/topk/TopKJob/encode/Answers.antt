@@ -16,8 +16,8 @@ returns-in_err-put_encoded-clause-err g c =
     let within : i < length v = grind arith in
     let mid = c.members.out.items in
     let new = c.put_encoded.new.out.items in
-    let front : GainsPrefix (member_encoded m) mid new = c.in_err-put_encoded.ensures.err in
-    rw p.1 (gains_next member_encoded v i m within c.args.out.now.items mid new c.members.invariant (subst (λ (x : ℕ × List ℕ). GainsPrefix (member_encoded x) mid new) stands front))
+    let prefix : GainsPrefix (member_encoded m) mid new = c.in_err-put_encoded.ensures.err in
+    rw p.1 (gains_next member_encoded v i m within c.args.out.now.items mid new c.members.invariant (subst (λ (x : ℕ × List ℕ). GainsPrefix (member_encoded x) mid new) stands prefix))
 
 pub members-preserved : goal.members-preserved
 members-preserved g c =

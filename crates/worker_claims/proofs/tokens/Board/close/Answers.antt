@@ -1,7 +1,7 @@
 use Rattle.std.proofs.Common.{arith, refl, sym, ap, ◌∙◌, subst, zero, [], ◌∷◌, ◌++◌, append_assoc, ⊎_elim}
 use lib.ListN.{get_elem?}
 use Rattle.worker_claims.specs.Hands.{IsHandOf, HasEnded}
-use Rattle.shared_seats.proofs.Lists.{front_all, last_all, at_append, at_second}
+use Rattle.shared_seats.proofs.Lists.{prefix_all, last_all, at_append, at_second}
 use Rattle.atomic_table.proofs.Lists.{at_longer}
 use Rattle.worker_claims.proofs.Steps.{times_first, times_next}
 use Rattle.worker_claims.proofs.tokens.Board.close.Goals as goal
@@ -14,7 +14,7 @@ hands-init g c =
       table = j.0 ∙ h.0.0;
       ended = subst HasEnded (sym j.2) h.1;
       count = omega (arith, j.1, c.in-Some.ensures.len, c.requires.all);
-      hands = front_all (λ h. IsHandOf c.args.self h × HasEnded h.doing) _ _ p e c.requires.hands;
+      hands = prefix_all (λ h. IsHandOf c.args.self h × HasEnded h.doing) _ _ p e c.requires.hands;
       rest = (p ∷ [], e);
       from = (λ i k t at. (q.0, p, i, ap (λ l. get_elem? l q.0) e ∙ q.1, ap (λ l. get_elem? l i) (sym j.3) ∙ at));
       number = (λ k. times_first k _ _ p _ e j.3);
@@ -37,7 +37,7 @@ hands-preserved g c =
       table = j.0 ∙ i.table;
       ended = subst HasEnded (sym (ap (λ m. m.0.doing) j.1)) i.ended;
       count = omega (arith, s.1, ap (λ m. m.0.parts) j.1, c.in-Some-pop.ensures.len, i.count);
-      hands = front_all (λ h. IsHandOf c.args.self h × HasEnded h.doing) _ _ p e i.hands;
+      hands = prefix_all (λ h. IsHandOf c.args.self h × HasEnded h.doing) _ _ p e i.hands;
       rest = (p ∷ i.rest.0, i.rest.1 ∙ (ap (λ l. l ++ i.rest.0) e ∙ append_assoc c.pop-in-hands.new.self.items (p ∷ []) i.rest.0));
       from = (λ n k t at. ⊎_elim (λ old. i.from n k t old) (λ (m, new). (q.0, p, m, place, ap (λ l. get_elem? l m) (sym s.3) ∙ new))
           (at_append c.hands.kept.me.0.given c.into_seat.result.me.0.given (k, t) n (ap (λ m. get_elem? m.0.given n) (sym j.1) ∙ at)));
