@@ -1,0 +1,78 @@
+-- What one text's final notes keep of the totals.
+use Rattle.std.proofs.Common.{◌≡◌, ℕ, ◌+◌, ◌-◌, Bool, true, false, cond, List, ◌∷◌, Option, Some, None, refl, arith}
+use Rattle.std.specs.List.Sorted.{IsPermutation}
+use Rattle.std.proofs.lemmas.List.Sorted.{All-permutation, IsPermutation-sym}
+use Rattle.std.proofs.lemmas.List.Elements.{All-cons, All-head, All-tail}
+use Rattle.map_tasks.specs.declared.held.Finish.{Finish}
+use Rattle.map_tasks.specs.declared.held.Finish.TheVariants.{Settle, Revert}
+use Rattle.map_tasks.specs.Texts.{TextView, TextFits, IsMappedSo, same_text, rest_of, finished}
+use Rattle.map_tasks.specs.Table.{TableView, texts_in, KeepsRest, FinishesNext, FinishesOne}
+use Rattle.map_tasks.proofs.Totals.{total-front}
+
+-- A text stays, with its notes final.
+rest-kept : (how : Finish) (es fs rest : List TextView) (e : TextView) → TextFits e → IsPermutation es (e ∷ rest) → IsPermutation fs (finished how e ∷ rest) → KeepsRest how es fs
+rest-kept Settle es fs rest e fits before after = λ t.
+    let a = total-front t (λ x. x.used) es rest e before in
+    let b = total-front t (λ x. x.came) es rest e before in
+    let c = total-front t (λ x. x.gone) es rest e before in
+    let d = total-front t (λ x. x.used) fs rest (finished Settle e) after in
+    let f = total-front t (λ x. x.came) fs rest (finished Settle e) after in
+    let h = total-front t (λ x. x.gone) fs rest (finished Settle e) after in
+    let s = test_case (same_text t e.input.text) in
+    omega (arith, a, b, c, d, f, h, s)
+  where
+    test_case : (b : Bool) → ◌≡◌ {A = ℕ} ((cond b ((e.used + e.came) - e.gone) 0 + cond b 0 0) + cond b e.gone 0) ((cond b e.used 0 + cond b e.came 0) + cond b 0 0)
+    test_case true = let w = fits.went in omega (arith, w)
+    test_case false = refl
+rest-kept Revert es fs rest e fits before after = λ t.
+    let a = total-front t (λ x. x.used) es rest e before in
+    let d = total-front t (λ x. x.used) fs rest (finished Revert e) after in
+    omega (arith, a, d)
+
+-- A text goes, since no leaf uses it in the end.
+rest-taken : (how : Finish) (es fs : List TextView) (e : TextView) → TextFits e → rest_of how e ≡ 0 → IsPermutation es (e ∷ fs) → KeepsRest how es fs
+rest-taken Settle es fs e fits none before = λ t.
+    let a = total-front t (λ x. x.used) es fs e before in
+    let b = total-front t (λ x. x.came) es fs e before in
+    let c = total-front t (λ x. x.gone) es fs e before in
+    let s = test_case (same_text t e.input.text) in
+    omega (arith, a, b, c, s)
+  where
+    test_case : (b : Bool) → ◌≡◌ {A = ℕ} (cond b e.gone 0) (cond b e.used 0 + cond b e.came 0)
+    test_case true = let w = fits.went in omega (arith, w, none)
+    test_case false = refl
+rest-taken Revert es fs e fits none before = λ t.
+    let a = total-front t (λ x. x.used) es fs e before in
+    let s = test_case (same_text t e.input.text) in
+    omega (arith, a, s)
+  where
+    test_case : (b : Bool) → ◌≡◌ {A = ℕ} (cond b e.used 0) 0
+    test_case true = none
+    test_case false = refl
+
+pub rest-then : (how : Finish) (es fs gs : List TextView) → KeepsRest how es fs → KeepsRest how fs gs → KeepsRest how es gs
+rest-then Settle es fs gs a b = λ t. let x = a t in let y = b t in omega (arith, x, y)
+rest-then Revert es fs gs a b = λ t. let x = a t in let y = b t in omega (arith, x, y)
+
+pub rest-same : (how : Finish) (es : List TextView) → KeepsRest how es es
+rest-same Settle es = λ t. refl
+rest-same Revert es = λ t. refl
+
+-- Whether it stays or goes.
+pub finishes-one : (how : Finish) (old new : TableView) (gone : Option TextView) → FinishesNext how old new gone → FinishesOne how old new
+finishes-one how old new None f =
+    let e = f.0 in
+    let rest = f.1 in
+    record {
+      rest = rest-kept how (texts_in old.rows) (texts_in new.rows) rest e f.2 f.4 f.5;
+      mapped = λ parts setting all.
+          let front = All-permutation (IsMappedSo parts setting) (texts_in old.rows) (e ∷ rest) f.4 all in
+          All-permutation (IsMappedSo parts setting) (finished how e ∷ rest) (texts_in new.rows) (IsPermutation-sym (texts_in new.rows) (finished how e ∷ rest) f.5)
+          (All-cons (IsMappedSo parts setting) (finished how e) rest (All-head (IsMappedSo parts setting) e rest front) (All-tail (IsMappedSo parts setting) e rest front));
+      less = (let a = f.6 in let b = f.7 in omega (arith, a, b));
+    }
+finishes-one how old new (Some e) f = record {
+  rest = rest-taken how (texts_in old.rows) (texts_in new.rows) e f.0 f.1 f.2;
+  mapped = λ parts setting all. All-tail (IsMappedSo parts setting) e (texts_in new.rows) (All-permutation (IsMappedSo parts setting) (texts_in old.rows) (e ∷ texts_in new.rows) f.2 all);
+  less = (let a = f.3 in let b = f.4 in omega (arith, a, b));
+}

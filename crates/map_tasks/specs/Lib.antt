@@ -1,0 +1,5 @@
+pub mod Inputs
+pub mod Leaves
+pub mod Texts
+pub mod Table
+pub mod Lanes
