@@ -5,7 +5,7 @@ ghost use Rattle.definitions.specs.Tables.{common_keys};
 ghost use Rattle.job_laws.specs.Counted.{risen, RoseBy};
 ghost use Rattle.pin_table.specs.Known.{CallerFits, IsWorn};
 ghost use Rattle.pin_table.specs.Covers.{Got};
-ghost use Rattle.pin_table.specs.OwnEvents.{there, gained, is_hit, is_miss};
+ghost use Rattle.pin_table.specs.OwnEvents.{Met, IsKnown, there, gained, is_hit, is_miss};
 ghost use Rattle.tree_laws.specs.Holds.{sheet_of, IsHeld};
 ghost use Rattle.tree_laws.specs.Pairs.{merge_of, pair_of, pair_digest};
 
@@ -36,8 +36,10 @@ pub fn merge_through<J: Job, W: Wait>(
     ensures held { IfOk result (λ hold. IsHeld (pair_digest J.encoded) (pair_of a.now b.now) caller.old caller.new hold) }
     ensures unheld { OnErr result (Got caller.old [] caller.new) }
 
-    // A merge is made, and then once, only where no look hit.
+    // A merge is made, and then once, only where no look hit; and a look for what is known hits, or what it met is a clash or a
+    // worn lock.
     ensures looked { let digest = pair_digest J.encoded (pair_of a.now b.now) in (J.Meter.counts m.old).merges < (J.Meter.counts m.new).merges → (list_any (is_miss digest) (gained digest caller.old caller.new) ≡ true) ⊎ IsWorn (there digest caller.old) caller.new }
+    ensures known { let digest = pair_digest J.encoded (pair_of a.now b.now) in IsKnown digest caller.old → (J.Meter.counts m.new ≡ J.Meter.counts m.old) ⊎ Met caller.old caller.new }
     ensures hit { let digest = pair_digest J.encoded (pair_of a.now b.now) in list_any (is_hit digest) (gained digest caller.old caller.new) ≡ true → J.Meter.counts m.new ≡ J.Meter.counts m.old }
     ensures made { let digest = pair_digest J.encoded (pair_of a.now b.now) in OnOk result (list_any (is_hit digest) (gained digest caller.old caller.new) ≡ false → (J.Meter.counts m.new).merges ≡ risen (J.Meter.counts m.old).merges) }
     ensures counted { RoseBy 0 1 (common_keys a.now.entries b.now.entries) (J.Meter.counts m.old) (J.Meter.counts m.new) }
@@ -65,6 +67,7 @@ fn merge_pair<J: Job, W: Wait>(
     ensures held { IfOk result (λ hold. IsHeld (pair_digest J.encoded) pair caller.old caller.new hold) }
     ensures unheld { OnErr result (Got caller.old [] caller.new) }
     ensures looked { let digest = pair_digest J.encoded pair in (J.Meter.counts m.old).merges < (J.Meter.counts m.new).merges → (list_any (is_miss digest) (gained digest caller.old caller.new) ≡ true) ⊎ IsWorn (there digest caller.old) caller.new }
+    ensures known { let digest = pair_digest J.encoded pair in IsKnown digest caller.old → (J.Meter.counts m.new ≡ J.Meter.counts m.old) ⊎ Met caller.old caller.new }
     ensures hit { let digest = pair_digest J.encoded pair in list_any (is_hit digest) (gained digest caller.old caller.new) ≡ true → J.Meter.counts m.new ≡ J.Meter.counts m.old }
     ensures made { let digest = pair_digest J.encoded pair in OnOk result (list_any (is_hit digest) (gained digest caller.old caller.new) ≡ false → (J.Meter.counts m.new).merges ≡ risen (J.Meter.counts m.old).merges) }
     ensures counted { RoseBy 0 1 (common_keys pair.left pair.right) (J.Meter.counts m.old) (J.Meter.counts m.new) }

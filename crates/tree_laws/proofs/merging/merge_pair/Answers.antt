@@ -2,9 +2,10 @@ use Rattle.std.proofs.Common.{◌≡◌, true, false, List, length, refl, sym, a
 use Rattle.pin_table.specs.Placing.{shard_at}
 use Rattle.pin_table.specs.OwnEvents.{there, Quiet}
 use Rattle.pin_table.proofs.Answering.{faults-got}
-use Rattle.pin_table.proofs.OwnEvents.{hit-gained, absent-quiet, clash-quiet, quiet-worn, worn-there, absent-missed, clash-missed}
+use Rattle.pin_table.proofs.OwnEvents.{hit-gained, absent-quiet, clash-quiet, quiet-worn, worn-there, absent-missed, clash-missed, clash-met, met-later}
+use Rattle.pin_table.proofs.Knowing.{known-not-absent}
 use Rattle.tree_laws.specs.Pairs.{IsMergeOf, pair_digest}
-use Rattle.tree_laws.proofs.MergeLaws.{hit-held, kept-held, kept-unheld, kept-missed, kept-unhit, kept-worn}
+use Rattle.tree_laws.proofs.MergeLaws.{hit-held, kept-held, kept-unheld, kept-missed, kept-unhit, kept-worn, kept-later}
 use Rattle.tree_laws.proofs.merging.merge_pair.Goals as goal
 
 pub returns-in-Ok-Hit-clause-held : goal.returns-in-Ok-Hit-clause-held
@@ -114,3 +115,28 @@ returns-in-Err-Worn-clause-hit g c =
 
 pub returns-in-Err-Mem-clause-unheld : goal.returns-in-Err-Mem-clause-unheld
 returns-in-Err-Mem-clause-unheld g c = faults-got _ _ c.args.caller.now c.look.new.caller c.in-Err-Mem.ensures.fault
+
+pub returns-in-Ok-Absent-clause-known : goal.returns-in-Ok-Absent-clause-known
+returns-in-Ok-Absent-clause-known g c =
+    let d = pair_digest g.J.Job.encoded in
+    let v = c.args.caller.now in
+    let w = c.look.new.caller in
+    λ known. absurd (known-not-absent v.number c.args.run (d c.args.pair) v w c.number.ensures.fits refl known (rw c.in-Ok-Absent.field-0-is at c.in-Ok-Absent.ensures.looked))
+
+pub returns-in-Ok-Clash-clause-known : goal.returns-in-Ok-Clash-clause-known
+returns-in-Ok-Clash-clause-known g c =
+    let d = pair_digest g.J.Job.encoded in
+    let v = c.args.caller.now in
+    let w = c.look.new.caller in
+    let looked = rw c.in-Ok-Clash.field-0-is at c.in-Ok-Clash.ensures.looked in
+    let q = clash-quiet (IsMergeOf g.J.Job.joined) d c.args.run c.args.pair v w _ c.number.ensures.fits looked in
+    let later = kept-later d c.args.pair v w c.merge_and_keep-in-Ok-Clash.new.caller _ q c.merge_and_keep-in-Ok-Clash.result c.merge_and_keep-in-Ok-Clash.ensures.held c.merge_and_keep-in-Ok-Clash.ensures.unheld in
+    λ known. inr (there (d c.args.pair) v, met-later (there (d c.args.pair) v) v w c.merge_and_keep-in-Ok-Clash.new.caller later (clash-met (IsMergeOf g.J.Job.joined) d c.args.run c.args.pair v w _ looked))
+
+pub returns-in-Err-Worn-clause-known : goal.returns-in-Err-Worn-clause-known
+returns-in-Err-Worn-clause-known g c =
+    let d = pair_digest g.J.Job.encoded in
+    let v = c.args.caller.now in
+    let w = c.look.new.caller in
+    let q = quiet-worn (d c.args.pair) _ (shard_at (d c.args.pair) (length c.args.memo.now.locks)) v w (rw c.in-Err-Worn.field-0-is at c.in-Err-Worn.ensures.fault) in
+    λ known. inr (there (d c.args.pair) v, inr (kept-worn d c.args.pair v w c.merge_and_keep-in-Err-Worn.new.caller _ q c.merge_and_keep-in-Err-Worn.result c.merge_and_keep-in-Err-Worn.ensures.held c.merge_and_keep-in-Err-Worn.ensures.unheld (shard_at (d c.args.pair) (length c.args.memo.now.locks)) (ap (λ ls. shard_at (d c.args.pair) (length ls)) c.requires.of) (worn-there _ _ v w (rw c.in-Err-Worn.field-0-is at c.in-Err-Worn.ensures.fault))))
