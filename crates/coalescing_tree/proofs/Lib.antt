@@ -1,0 +1,4 @@
+pub mod TopLaws
+pub mod GetLaws
+pub mod SettleLaws
+pub mod AdvanceLaws

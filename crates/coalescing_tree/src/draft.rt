@@ -1,0 +1,12 @@
+//! A draft keeps its merges apart from the tree's, so that it can be dropped without a trace.
+use job_laws::Job;
+use tree_laws::Hold;
+
+/// The merges that a draft's fresh leaves asked for.
+#[derive(Drop)]
+pub(crate) enum Draft<J: Job> {
+    /// No leaf came.
+    Same,
+    /// In the order in which they were made; the last one is over all leaves.
+    Merged(Vec<Hold<J>>),
+}

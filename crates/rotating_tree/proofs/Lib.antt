@@ -1,0 +1,12 @@
+pub mod NodeLaws
+pub mod PinLaws
+pub mod RowLaws
+pub mod SlotLaws
+pub mod LevelLaws
+pub mod FoundLaws
+pub mod RootLaws
+pub mod LooseLaws
+pub mod CircleLaws
+pub mod StageLaws
+pub mod RejoinLaws
+pub mod SeenLaws

@@ -1,0 +1,14 @@
+//! A draft stands beside what it may replace, so that it can be dropped without a trace.
+use crate::part::Part;
+use job_laws::Job;
+
+/// What becomes of a node when a draft is settled.
+#[derive(Drop)]
+pub(crate) enum Draft<J: Job> {
+    /// It stays, and so does everything below it.
+    Same,
+    /// A place below it changed, and what it becomes is not made yet.
+    Due,
+    /// It becomes this.
+    New(Part<J>),
+}
