@@ -252,3 +252,13 @@ none-known (x ∷ locks) (suc s) = none-known locks s
 
 pub newcomers-unused : (locks : List TableId) (cs : List CallerView) → AreNewcomers locks cs → (i : ℕ) (c : CallerView) → slice_get cs i ≡ Some c → (s : ℕ) → (known_at s c).mine ≡ []
 newcomers-unused locks cs fresh i c at s = ap (λ (d : CallerView). (known_at s d).mine) (fresh i c at) ∙ ap (λ (k : ShardKnown). k.mine) (none-known locks s)
+
+at-last : (xs ys : List CallerView) (c : CallerView) → slice_get ((xs ++ c ∷ []) ++ ys) (length xs) ≡ Some c
+at-last [] ys c = refl
+at-last (x ∷ xs) ys c = at-last xs ys c
+
+-- A caller of a new memo, behind and before others.
+pub newcomer-among : (locks : List TableId) (cs xs ys : List CallerView) (c : CallerView) → AreNewcomers locks cs → cs ≡ (xs ++ c ∷ []) ++ ys → (c.locks ≡ locks) × ((s : ℕ) → (known_at s c).mine ≡ [])
+newcomer-among locks cs xs ys c fresh is =
+    let at : slice_get cs (length xs) ≡ Some c = ap (λ (ds : List CallerView). slice_get ds (length xs)) is ∙ at-last xs ys c in
+    (ap (λ (d : CallerView). d.locks) (fresh (length xs) c at), newcomers-unused locks cs fresh (length xs) c at)

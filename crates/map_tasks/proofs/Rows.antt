@@ -239,6 +239,7 @@ module _ (calm next : ℕ) (rows : List Row) (table : IsTable calm next rows) wh
     IsPermutation-map (λ (r : Row). r.1) rows ((k, e) ∷ swap_remove rows calm (k, e)) (taken-front rows calm (k, e) at),
     refl,
     (let long = length_permutation rows ((k, e) ∷ swap_remove rows calm (k, e)) (taken-front rows calm (k, e) at) in omega (arith, long)),
+    table.sound.once,
   )
 
   pub touches-swapped : (place : ℕ) (ys : List Row) → place < calm → ys ≡ swap rows place (calm - 1)

@@ -7,8 +7,9 @@ use Rattle.std.proofs.lemmas.Slice.Eq.{slice_eq-Decides, bytes_eq-Decides}
 use Rattle.std.proofs.lemmas.List.Sums.{sum_by-cons, sum_by_push}
 use Rattle.std.proofs.lemmas.List.Sorted.{sum_by-IsPermutation, All-permutation, IsPermutation-sym}
 use Rattle.std.proofs.lemmas.List.Elements.{All-nil, All-cons, All-head, All-tail, All-append}
+use Rattle.pin_table.specs.Covers.{count}
 use Rattle.map_tasks.specs.Inputs.{InputView}
-use Rattle.map_tasks.specs.Texts.{TextView, TextFits, IsQuiet, IsMappedSo, IsHeld, same_text, of_text, total_of, came_of, gone_of, Comes, Leaves, Settles, Reverts, Changes, with_came, with_gone, new_text, BringsText}
+use Rattle.map_tasks.specs.Texts.{TextView, TextFits, IsQuiet, IsMappedSo, IsHeld, same_text, of_text, total_of, came_of, gone_of, Comes, Leaves, Settles, Reverts, Changes, with_came, with_gone, new_text, BringsText, StayPinned}
 use Rattle.map_tasks.specs.Table.{FinishesAll}
 use Rattle.map_tasks.specs.declared.held.Finish.TheVariants.{Settle, Revert}
 
@@ -119,6 +120,10 @@ module _ (t : List (List ℕ)) (how : TextView → TextView) (old new : List Tex
       zero_case true = refl
       zero_case false = refl
 
+  -- Pins stay.
+  pub change-pinned : (how changes.text).pins ≡ changes.text.pins → (how changes.text).input ≡ changes.text.input → StayPinned old new
+  change-pinned pins same = λ u was is s id. change-same (λ e. count s id e.pins) (ap (count s id) pins) same u
+
   -- What holds of each input still does.
   pub change-mapped : (how changes.text).input ≡ changes.text.input → (parts setting : ℕ) → All (IsMappedSo parts setting) old → All (IsMappedSo parts setting) new
   change-mapped same parts setting all =
@@ -164,6 +169,16 @@ module _ (input : InputView) (old new : List TextView) (brings : BringsText inpu
       zero_case : (b : Bool) → ◌≡◌ {A = ℕ} (cond b 0 0) 0
       zero_case true = refl
       zero_case false = refl
+
+  pub brings-pinned : (IsHeld input.text old → ⊥) → StayPinned old new
+  brings-pinned absent = λ u was is s id.
+      let a = brought-total (λ e. count s id e.pins) u in
+      let z = none u was s id (same_text u input.text) refl in
+      omega (arith, a, z)
+    where
+      none : (u : List (List ℕ)) → IsHeld u old → (s id : ℕ) (b : Bool) → same_text u input.text ≡ b → of_text u (λ e. count s id e.pins) (new_text input brings.pins) ≡ 0
+      none u was s id true is = absurd (absent (subst (λ (t : List (List ℕ)). IsHeld t old) (same-is u input.text is) was))
+      none u was s id false is = ap (λ (b : Bool). cond {A = ℕ} b (count s id brings.pins) 0) is
 
   pub brings-mapped : All (IsMappedSo input.parts input.setting) old → All (IsMappedSo input.parts input.setting) new
   brings-mapped all = subst (All (IsMappedSo input.parts input.setting)) (sym brings.texts)

@@ -2,8 +2,8 @@
 use Rattle.std.specs.Prelude.{◌≡◌, ◌≢◌, ℕ, ◌+◌, ◌<◌, ◌≤◌, ◌&&◌, nat_eq, Bool, List, [], ◌∷◌, ◌++◌, length, map, take, Option, Some, None, All, slice_get}
 use Rattle.std.specs.List.Sorted.{IsPermutation}
 use Rattle.std.specs.Str.{bytes_eq}
-use Rattle.map_tasks.specs.Texts.{TextView, TextFits, IsQuiet, IsMappedSo, AreSound, used_of, came_of, gone_of, digest_of_input, rest_of, finished, pins_in}
-use Rattle.pin_table.specs.Covers.{PinName}
+use Rattle.map_tasks.specs.Texts.{TextView, TextFits, IsQuiet, IsMappedSo, AreSound, used_of, came_of, gone_of, digest_of_input, rest_of, finished, pins_in, IsHeld, total_of}
+use Rattle.pin_table.specs.Covers.{PinName, count}
 use Rattle.map_tasks.specs.declared.held.Finish.{Finish}
 use Rattle.map_tasks.specs.declared.held.Finish.TheVariants.{Settle, Revert}
 
@@ -61,25 +61,32 @@ pub record SplitsPins (pins left : List PinName) (old new : List TextView) : Typ
   pub split : own ++ left ≡ pins
   pub texts : pins_in new ≡ pins_in old ++ own
 
--- One text more is final: it stays, or it goes.
+-- One text more is final: it stays, or it goes, and was there once.
 abbrev pub FinishesNext : Finish → TableView → TableView → Option TextView → Type 0
 FinishesNext how old new None = (e : TextView) × (rest : List TextView) × TextFits e × (0 < rest_of how e) × IsPermutation (texts_in old.rows) (e ∷ rest) × IsPermutation (texts_in new.rows) (finished how e ∷ rest) × (new.calm ≡ old.calm + 1) × (length new.rows ≡ length old.rows)
-FinishesNext how old new (Some e) = TextFits e × (rest_of how e ≡ 0) × IsPermutation (texts_in old.rows) (e ∷ texts_in new.rows) × (new.calm ≡ old.calm) × (length new.rows + 1 ≡ length old.rows)
+FinishesNext how old new (Some e) = TextFits e × (rest_of how e ≡ 0) × IsPermutation (texts_in old.rows) (e ∷ texts_in new.rows) × (new.calm ≡ old.calm) × (length new.rows + 1 ≡ length old.rows) × ((t : List (List ℕ)) → total_of t (λ _. 1) (texts_in old.rows) ≤ 1)
 
 -- What each text has in the end is kept: after settling the leaves that use it and came, less those that went; after reverting those that use it.
 abbrev pub KeepsRest : Finish → List TextView → List TextView → Type 0
 KeepsRest Settle old new = (t : List (List ℕ)) → (used_of t new + came_of t new) + gone_of t old ≡ (used_of t old + came_of t old) + gone_of t new
 KeepsRest Revert old new = (t : List (List ℕ)) → used_of t new ≡ used_of t old
 
--- The same by its totals: each text keeps what it has in the end, where all were mapped so all are, and one text less is not final.
+-- No text is held that was not, and a text that is held has its pins.
+pub record KeepsPins (old new : List TextView) : Type 0 where
+  pub held : (t : List (List ℕ)) → IsHeld t new → IsHeld t old
+  pub pins : (t : List (List ℕ)) → IsHeld t new → (s id : ℕ) → total_of t (λ e. count s id e.pins) new ≡ total_of t (λ e. count s id e.pins) old
+
+-- The same by its totals: each text keeps what it has in the end, where all were mapped so all are, pins stay, and one text less is not final.
 pub record FinishesOne (how : Finish) (old new : TableView) : Type 0 where
   pub rest : KeepsRest how (texts_in old.rows) (texts_in new.rows)
   pub mapped : (parts setting : ℕ) → All (IsMappedSo parts setting) (texts_in old.rows) → All (IsMappedSo parts setting) (texts_in new.rows)
+  pub pins : KeepsPins (texts_in old.rows) (texts_in new.rows)
   pub less : new.calm + length old.rows ≡ old.calm + length new.rows + 1
 
--- All notes are final: each text keeps what it has in the end, where all were mapped so all are, no text has notes, and all are sound.
+-- All notes are final: each text keeps what it has in the end, where all were mapped so all are, pins stay, no text has notes, and all are sound.
 pub record FinishesAll (how : Finish) (old new : List TextView) : Type 0 where
   pub rest : KeepsRest how old new
   pub mapped : (parts setting : ℕ) → All (IsMappedSo parts setting) old → All (IsMappedSo parts setting) new
+  pub pins : KeepsPins old new
   pub quiet : All IsQuiet new
   pub sound : AreSound new

@@ -6,7 +6,7 @@ use Rattle.std.specs.Str.{bytes_eq}
 use Rattle.std.specs.Cmp.Lexicographic.{pointwise}
 use Rattle.memo_core.specs.History.{how_many}
 use Rattle.pin_table.specs.Views.{PinView}
-use Rattle.pin_table.specs.Covers.{PinName, name_of}
+use Rattle.pin_table.specs.Covers.{PinName, name_of, count}
 use Rattle.map_tasks.specs.Inputs.{InputView, input_digest}
 use Rattle.map_tasks.specs.declared.held.Finish.{Finish}
 use Rattle.map_tasks.specs.declared.held.Finish.TheVariants.{Settle, Revert}
@@ -74,6 +74,10 @@ IsMappedSo parts setting e = (e.input.parts ≡ parts) × (e.input.setting ≡ s
 -- The pins of all texts.
 abbrev pub pins_in : List TextView → List PinName
 pins_in es = flat_map (λ e. e.pins) es
+
+-- A text that was held and still is has its pins.
+abbrev pub StayPinned : List TextView → List TextView → Type 0
+StayPinned old new = (t : List (List ℕ)) → IsHeld t old → IsHeld t new → (s id : ℕ) → total_of t (λ e. count s id e.pins) new ≡ total_of t (λ e. count s id e.pins) old
 
 -- One more leaf of the text came, and no other number changed.
 pub record Comes (t : List (List ℕ)) (old new : List TextView) : Type 0 where

@@ -4,11 +4,11 @@ ghost use Rattle.definitions.specs.Answer.{pairs_of};
 ghost use Rattle.job_laws.specs.Counted.{RoseBy};
 ghost use Rattle.job_laws.specs.Meanings.{AllAccepted, meaning_of};
 ghost use Rattle.pin_table.specs.Known.{CallerFits, known_at};
-ghost use Rattle.pin_table.specs.Covers.{IsLater};
+ghost use Rattle.pin_table.specs.Covers.{IsLater, Backed};
 ghost use Rattle.map_tasks.specs.Inputs.{input_digest};
 ghost use Rattle.map_tasks.specs.Leaves.{sheet_for};
-ghost use Rattle.map_tasks.specs.Texts.{IsMappedSo, IsHeld, AreSound, Comes, Leaves, Settles, Reverts, used_of, gone_of};
-ghost use Rattle.map_tasks.specs.Lanes.{LaneView, StayMappedSo, LookedFirst, KeptOrClashed, ReleasesAll, HoldsOnce};
+ghost use Rattle.map_tasks.specs.Texts.{IsMappedSo, IsHeld, AreSound, StayPinned, Comes, Leaves, Settles, Reverts, used_of, gone_of};
+ghost use Rattle.map_tasks.specs.Lanes.{LaneView, pins_of, StayMappedSo, LookedFirst, KeptOrClashed, ReleasesAll, HoldsOnce};
 
 use crate::bringing::bring_new;
 use crate::finishing::finish_texts;
@@ -65,10 +65,12 @@ impl<J: Job> Lane<J> {
         }
     }
 
-    /// The number of its caller. What the caller has seen of each shard is a legal history with its own events in order.
+    /// The number of its caller. What the caller has seen of each shard is a legal history with its own events in order,
+    /// and it holds exactly the lane's pins, in each shard whose lock was not shown worn.
     pub fn number(&self) -> u64
         ensures number { result ≡ self.now.caller.number }
         ensures fits { CallerFits self.now.caller }
+        ensures backed { Backed self.now.caller (pins_of self.now) }
     {
         self.caller.number()
     }
@@ -120,6 +122,7 @@ impl<J: Job> Lane<J> {
         ensures ok { OnOk result (Comes bundle.now self.old.texts self.new.texts) }
         ensures err { OnErr result (self.new.texts ≡ self.old.texts) }
         ensures mapped { All (IsMappedSo parts (J.setting job.now)) self.new.texts }
+        ensures pinned { StayPinned self.old.texts self.new.texts }
 
         // Whatever it answers, a text that is held costs nothing, and no other costs more than its mapping.
         ensures held { IsHeld bundle.now self.old.texts → J.Meter.counts m.new ≡ J.Meter.counts m.old }
@@ -163,6 +166,7 @@ impl<J: Job> Lane<J> {
         ensures ok { OnOk result (Comes input.now.text self.old.texts self.new.texts) }
         ensures err { OnErr result (self.new.texts ≡ self.old.texts) }
         ensures mapped { All (IsMappedSo input.now.parts input.now.setting) self.new.texts }
+        ensures pinned { StayPinned self.old.texts self.new.texts }
 
         // Whatever it answers, a text that is held costs nothing, and no other costs more than its mapping.
         ensures held { IsHeld input.now.text self.old.texts → J.Meter.counts m.new ≡ J.Meter.counts m.old }
@@ -201,6 +205,7 @@ impl<J: Job> Lane<J> {
         requires there { gone_of bundle.now self.old.texts < used_of bundle.now self.old.texts }
         ensures texts { Leaves bundle.now self.old.texts self.new.texts }
         ensures mapped { StayMappedSo self.old.texts self.new.texts }
+        ensures pinned { StayPinned self.old.texts self.new.texts }
         ensures same { (self.new.caller ≡ self.old.caller) × (self.new.spare ≡ self.old.spare) }
     {
         let records = bundle.records();
@@ -212,6 +217,7 @@ impl<J: Job> Lane<J> {
         requires there { gone_of input.now.text self.old.texts < used_of input.now.text self.old.texts }
         ensures texts { Leaves input.now.text self.old.texts self.new.texts }
         ensures mapped { StayMappedSo self.old.texts self.new.texts }
+        ensures pinned { StayPinned self.old.texts self.new.texts }
         ensures same { (self.new.caller ≡ self.old.caller) × (self.new.spare ≡ self.old.spare) }
     {
         self.texts.leave(&input.digest(), input.bundle().records());
@@ -236,6 +242,7 @@ impl<J: Job> Lane<J> {
         requires of { self.old.caller.locks ≡ memo.now.locks }
         ensures texts { Settles self.old.texts self.new.texts }
         ensures mapped { StayMappedSo self.old.texts self.new.texts }
+        ensures pinned { StayPinned self.old.texts self.new.texts }
         ensures later { IsLater self.old.caller self.new.caller }
         ensures released { ReleasesAll self.old self.new }
         ensures once { HoldsOnce self.new.caller self.new.texts }
@@ -256,6 +263,7 @@ impl<J: Job> Lane<J> {
         requires of { self.old.caller.locks ≡ memo.now.locks }
         ensures texts { Reverts self.old.texts self.new.texts }
         ensures mapped { StayMappedSo self.old.texts self.new.texts }
+        ensures pinned { StayPinned self.old.texts self.new.texts }
         ensures later { IsLater self.old.caller self.new.caller }
         ensures released { ReleasesAll self.old self.new }
         ensures once { HoldsOnce self.new.caller self.new.texts }

@@ -23,3 +23,6 @@ pub use leaf::Leaf;
 pub use leaf_input::LeafInput;
 pub use map_recipe::MapRecipe;
 pub use placing::lane_of;
+
+#[cfg(test)]
+mod tests;

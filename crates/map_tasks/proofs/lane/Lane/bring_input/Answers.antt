@@ -4,10 +4,10 @@ use Rattle.definitions.specs.Answer.{pairs_of}
 use Rattle.job_laws.proofs.CountLaws.{rose_none, rose_more}
 use Rattle.pin_table.specs.Covers.{Backed, IsLater, names_of}
 use Rattle.pin_table.proofs.Covering.{later-same}
-use Rattle.map_tasks.specs.Texts.{TextView, IsMappedSo, IsHeld, Comes, Changes, with_came, digest_of_input, pins_in}
+use Rattle.map_tasks.specs.Texts.{TextView, IsMappedSo, IsHeld, Comes, Changes, with_came, digest_of_input, pins_in, StayPinned}
 use Rattle.map_tasks.specs.Table.{IsAt, FindsText, texts_in}
 use Rattle.map_tasks.specs.Lanes.{LaneView}
-use Rattle.map_tasks.proofs.Totals.{absent-not-held, change-comes, change-mapped, brings-comes, brings-mapped}
+use Rattle.map_tasks.proofs.Totals.{absent-not-held, change-comes, change-mapped, change-pinned, brings-comes, brings-mapped, brings-pinned}
 use Rattle.map_tasks.proofs.Rows.{absent-rows}
 use Rattle.map_tasks.proofs.LaneSteps.{found-input, found-held, backed-came}
 use Rattle.map_tasks.proofs.lane.Lane.bring_input.Goals as goal
@@ -48,6 +48,12 @@ returns-in-Ok-clause-mapped g c =
     let changes : Changes c.args.input.now.text with_came (texts_in c.self.inside.texts.rows) (texts_in c.come.new.self.rows) = subst (λ (t : List (List ℕ)). Changes t with_came (texts_in c.self.inside.texts.rows) (texts_in c.come.new.self.rows)) at.is (c.in-Ok.ensures.ok at.row at.at) in
     change-mapped c.args.input.now.text with_came (texts_in c.self.inside.texts.rows) (texts_in c.come.new.self.rows) changes refl c.args.input.now.parts c.args.input.now.setting mapped
 
+pub returns-in-Ok-clause-pinned : goal.returns-in-Ok-clause-pinned
+returns-in-Ok-clause-pinned g c =
+    let at : IsAt c.args.input.now.text c.self.inside.texts.rows c.in-Some.place = subst (λ (t : List (List ℕ)). IsAt t c.self.inside.texts.rows c.in-Some.place) (c.records.ensures ∙ c.bundle.ensures) c.in-Some.ensures in
+    let changes : Changes c.args.input.now.text with_came (texts_in c.self.inside.texts.rows) (texts_in c.come.new.self.rows) = subst (λ (t : List (List ℕ)). Changes t with_came (texts_in c.self.inside.texts.rows) (texts_in c.come.new.self.rows)) at.is (c.in-Ok.ensures.ok at.row at.at) in
+    subst (λ (v : LaneView). StayPinned v.texts (texts_in c.come.new.self.rows)) c.self.view_is (change-pinned c.args.input.now.text with_came (texts_in c.self.inside.texts.rows) (texts_in c.come.new.self.rows) changes refl refl)
+
 pub returns-in-Ok-clause-counted : goal.returns-in-Ok-clause-counted
 returns-in-Ok-clause-counted g c = rose_more 0 0 0 (length c.args.input.now.text) 0 (length (pairs_of (g.J.Job.emits (g.J.Job.setting c.args.job.now)) c.args.input.now.text)) (g.J.Meter.Meter.counts c.args.m.now) (g.J.Meter.Meter.counts c.args.m.now) (omega arith) (omega arith) (omega arith) (rose_none (g.J.Meter.Meter.counts c.args.m.now))
 
@@ -65,6 +71,9 @@ returns-in-Err-clause-err g c = ap (λ t. texts_in t.rows) c.in-Err.ensures.err 
 pub returns-in-Err-clause-mapped : goal.returns-in-Err-clause-mapped
 returns-in-Err-clause-mapped g c = subst (All (IsMappedSo c.args.input.now.parts c.args.input.now.setting)) (sym (ap (λ t. texts_in t.rows) c.in-Err.ensures.err ∙ ap (λ (v : LaneView). v.texts) c.self.view_is)) c.requires.mapped
 
+pub returns-in-Err-clause-pinned : goal.returns-in-Err-clause-pinned
+returns-in-Err-clause-pinned g c = subst (StayPinned c.args.self.now.texts) (sym (ap (λ t. texts_in t.rows) c.in-Err.ensures.err ∙ ap (λ (v : LaneView). v.texts) c.self.view_is)) (λ t was is s id. refl)
+
 pub returns-in-Err-clause-counted : goal.returns-in-Err-clause-counted
 returns-in-Err-clause-counted g c = rose_more 0 0 0 (length c.args.input.now.text) 0 (length (pairs_of (g.J.Job.emits (g.J.Job.setting c.args.job.now)) c.args.input.now.text)) (g.J.Meter.Meter.counts c.args.m.now) (g.J.Meter.Meter.counts c.args.m.now) (omega arith) (omega arith) (omega arith) (rose_none (g.J.Meter.Meter.counts c.args.m.now))
 
@@ -78,6 +87,15 @@ pub returns-in-Ok-bring_new-clause-mapped : goal.returns-in-Ok-bring_new-clause-
 returns-in-Ok-bring_new-clause-mapped g c =
     let mapped : All (IsMappedSo c.args.input.now.parts c.args.input.now.setting) (texts_in c.self.inside.texts.rows) = subst (λ (v : LaneView). All (IsMappedSo c.args.input.now.parts c.args.input.now.setting) v.texts) (sym c.self.view_is) c.requires.mapped in
     brings-mapped c.args.input.now (texts_in c.self.inside.texts.rows) (texts_in c.bring_new.new.texts.rows) c.in-Ok-bring_new.ensures.ok mapped
+
+pub returns-in-Ok-bring_new-clause-pinned : goal.returns-in-Ok-bring_new-clause-pinned
+returns-in-Ok-bring_new-clause-pinned g c =
+    let absent : FindsText c.args.input.now.text c.self.inside.texts.rows None = subst (λ (t : List (List ℕ)). FindsText t c.self.inside.texts.rows None) (c.records.ensures ∙ c.bundle.ensures) (λ k d h. c.in-None.ensures k d h) in
+    subst (λ (v : LaneView). StayPinned v.texts (texts_in c.bring_new.new.texts.rows)) c.self.view_is
+    (brings-pinned c.args.input.now (texts_in c.self.inside.texts.rows) (texts_in c.bring_new.new.texts.rows) c.in-Ok-bring_new.ensures.ok (absent-not-held c.args.input.now.text (texts_in c.self.inside.texts.rows) (absent-rows c.args.input.now.text c.self.inside.texts.rows absent)))
+
+pub returns-in-Err-bring_new-clause-pinned : goal.returns-in-Err-bring_new-clause-pinned
+returns-in-Err-bring_new-clause-pinned g c = subst (StayPinned c.args.self.now.texts) (sym (c.in-Err-bring_new.ensures.err ∙ ap (λ (v : LaneView). v.texts) c.self.view_is)) (λ t was is s id. refl)
 
 pub returns-in-Ok-bring_new-clause-held : goal.returns-in-Ok-bring_new-clause-held
 returns-in-Ok-bring_new-clause-held g c =

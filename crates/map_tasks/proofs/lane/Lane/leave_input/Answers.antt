@@ -1,9 +1,9 @@
 use Rattle.std.proofs.Common.{List, ℕ, refl, ap, subst, ◌∙◌}
 use Rattle.pin_table.specs.Covers.{names_of}
-use Rattle.map_tasks.specs.Texts.{Leaves, Changes, with_gone, digest_of_input}
+use Rattle.map_tasks.specs.Texts.{Leaves, Changes, with_gone, digest_of_input, StayPinned}
 use Rattle.map_tasks.specs.Table.{texts_in}
 use Rattle.map_tasks.specs.Lanes.{LaneView, StayMappedSo}
-use Rattle.map_tasks.proofs.Totals.{change-leaves, change-mapped}
+use Rattle.map_tasks.proofs.Totals.{change-leaves, change-mapped, change-pinned}
 use Rattle.map_tasks.proofs.LaneSteps.{backed-gone}
 use Rattle.map_tasks.proofs.lane.Lane.leave_input.Goals as goal
 
@@ -17,5 +17,6 @@ returns g c =
     record {
       texts = subst (λ (v : LaneView). Leaves c.args.input.now.text v.texts (texts_in c.leave.new.self.rows)) c.self.view_is (change-leaves c.args.input.now.text (texts_in c.self.inside.texts.rows) (texts_in c.leave.new.self.rows) changes);
       mapped = subst (λ (v : LaneView). StayMappedSo v.texts (texts_in c.leave.new.self.rows)) c.self.view_is (change-mapped c.args.input.now.text with_gone (texts_in c.self.inside.texts.rows) (texts_in c.leave.new.self.rows) changes refl);
+      pinned = subst (λ (v : LaneView). StayPinned v.texts (texts_in c.leave.new.self.rows)) c.self.view_is (change-pinned c.args.input.now.text with_gone (texts_in c.self.inside.texts.rows) (texts_in c.leave.new.self.rows) changes refl refl);
       same = (ap (λ (v : LaneView). v.caller) c.self.view_is, ap (λ (v : LaneView). v.spare) c.self.view_is);
     }

@@ -1,7 +1,7 @@
 use Rattle.std.proofs.Common.{List, [], ◌++◌, sym, ap, subst, ◌∙◌}
 use Rattle.pin_table.specs.Covers.{PinName, Covered, Balanced, Backed, IsLater, names_of}
 use Rattle.pin_table.proofs.Covering.{covered-left, later-then}
-use Rattle.map_tasks.specs.Texts.{Reverts, digest_of_input, pins_in}
+use Rattle.map_tasks.specs.Texts.{Reverts, digest_of_input, pins_in, StayPinned}
 use Rattle.map_tasks.specs.Table.{texts_in}
 use Rattle.map_tasks.specs.Lanes.{LaneView, StayMappedSo, ReleasesAll}
 use Rattle.map_tasks.proofs.Totals.{reverted-texts}
@@ -32,6 +32,10 @@ returns-clause-texts g c =
 pub returns-clause-mapped : goal.returns-clause-mapped
 returns-clause-mapped g c =
     subst (λ (v : LaneView). StayMappedSo v.texts (texts_in c.finish_texts.new.texts.rows)) c.self.view_is c.finish_texts.ensures.finished.mapped
+
+pub returns-clause-pinned : goal.returns-clause-pinned
+returns-clause-pinned g c =
+    subst (λ (v : LaneView). StayPinned v.texts (texts_in c.finish_texts.new.texts.rows)) c.self.view_is (λ t was is s id. c.finish_texts.ensures.finished.pins.pins t is s id)
 
 pub returns-clause-released : goal.returns-clause-released
 returns-clause-released g c =
