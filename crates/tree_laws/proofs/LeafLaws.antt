@@ -5,9 +5,10 @@ use Rattle.std.proofs.lemmas.List.{map-append, length-map}
 use Rattle.std.proofs.lemmas.List.Elements.{All-head, All-tail, All-cons, All-nil, All-weaker}
 use Rattle.std.proofs.Math.Nat.{mul-le-mul_left}
 use Rattle.definitions.specs.Tables.{IsRising, HasGoodValues, IsGoodJoin, merged, common_keys}
+use Rattle.definitions.proofs.TableLaws.{IsRising-merged, good-merged}
 use Rattle.job_laws.specs.declared.meter.Counts.{Counts}
 use Rattle.job_laws.specs.Counted.{RoseBy}
-use Rattle.job_laws.proofs.CountLaws.{rose_then, rose_more}
+use Rattle.job_laws.proofs.CountLaws.{rose_none, rose_then, rose_more}
 use Rattle.sheets.specs.Sheets.{SheetOf}
 use Rattle.sheets.specs.United.{tables_of}
 use Rattle.tree_laws.specs.Pairs.{pair_of, merge_of}
@@ -62,6 +63,18 @@ module _ {V : Type 0} (good : ℕ → V → Type 0) (joined : ℕ → V → V �
   pub cost-within : (us : List (SheetOf V)) (a b : SheetOf V) (ts : List (List (List ℕ × V))) → All (IsLeaf good setting) us → All (λ (s : SheetOf V). IsWithin s.entries ts) us → IsMergeOver joined setting (tables_of us) (Some a) → common_keys a.entries b.entries ≤ distinct_keys ts
   cost-within us a b ts x w over = common-within a.entries b.entries ts (rising-over us a x over) (within-over us a ts w over)
 
+module _ {V : Type 0} (joined : ℕ → V → V → V) where
+  -- What holds of leaves holds of their merge.
+  pub leaf-merge : (good : ℕ → V → Type 0) (setting : ℕ) → IsGoodJoin (good setting) (joined setting) → (a b : SheetOf V) → IsLeaf good setting a → IsLeaf good setting b → IsLeaf good setting (merge_of joined (pair_of a b))
+  leaf-merge good setting laws a b x y = record {
+    setting_is = x.setting_is;
+    values = subst (λ (s : ℕ). HasGoodValues (good setting) (merged (joined s) a.entries b.entries)) (sym x.setting_is) (good-merged laws a.entries b.entries x.values y.values);
+    rising = IsRising-merged (joined a.setting) a.entries b.entries;
+  }
+
+  pub within-merge : (ts : List (List (List ℕ × V))) (a b : SheetOf V) → IsWithin a.entries ts → IsWithin b.entries ts → IsWithin (merge_of joined (pair_of a b)).entries ts
+  within-merge ts a b x y = within-merged (joined a.setting) a.entries b.entries ts x y
+
 module _ {V : Type 0} where
   -- Each leaf of a list is within its tables.
   pub all-within : (us : List (SheetOf V)) → All (λ (s : SheetOf V). IsWithin s.entries (tables_of us)) us
@@ -76,3 +89,14 @@ merged-more n k j x y z le a b = rose_more 0 (n + 1) (n * k + j) 0 (n + 1) ((n +
 -- A bound that is no less.
 pub merged-within : (n m k : ℕ) (x y : Counts) → n ≤ m → RoseBy 0 n (n * k) x y → RoseBy 0 m (m * k) x y
 merged-within n m k x y le a = rose_more 0 n (n * k) 0 m (m * k) x y (omega arith) le (let h = mul-le-mul_left k le in omega (arith, h)) a
+
+-- Merges, and then more, each of which joins at most so many keys.
+pub rose-more : (n m k : ℕ) (x y z : Counts) → RoseBy 0 n (n * k) x y → RoseBy 0 m (m * k) y z → RoseBy 0 (n + m) ((n + m) * k) x z
+rose-more n m k x y z a b = rose_more 0 (n + m) (n * k + m * k) 0 (n + m) ((n + m) * k) x z (omega arith) (omega arith) (sums n m k) (rose_then 0 n (n * k) 0 m (m * k) x y z a b)
+  where
+    sums : (n m k : ℕ) → n * k + m * k ≤ (n + m) * k
+    sums n m k = grind arith
+
+-- Nothing was merged.
+pub rose-still : (n k : ℕ) (x : Counts) → RoseBy 0 n k x x
+rose-still n k x = rose_more 0 0 0 0 n k x x (omega arith) (omega arith) (omega arith) (rose_none x)

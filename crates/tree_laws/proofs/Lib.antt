@@ -3,3 +3,5 @@ pub mod MergedAll
 pub mod HoldLaws
 pub mod MergeLaws
 pub mod LeafLaws
+pub mod TradeLaws
+pub mod GetLaws

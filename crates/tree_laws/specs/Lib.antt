@@ -1,3 +1,4 @@
 pub mod Pairs
 pub mod Holds
 pub mod Trees
+pub mod Trades

@@ -5,6 +5,7 @@ use Rattle.sheets.specs.Sheets.{SheetOf}
 use Rattle.sheets.specs.United.{tables_of, end_to_end}
 use Rattle.record_text.specs.declared.shift.Shift.{Shift}
 use Rattle.record_text.specs.Shifts.{shifted, first_after}
+use Rattle.pin_table.specs.Covers.{PinName}
 
 -- The shape of a folding tree: of 2^height places those from `low` to `high - 1` have leaves. Every other tree has zeros.
 pub record Shape : Type 0 where
@@ -33,6 +34,11 @@ pub record TreeView (V : Type 0) : Type 0 where
   pub places : ℕ
   pub leaves : Leaves V
   pub draft : Option (Leaves V)
+
+-- A tree with its pins.
+pub record Seen (V : Type 0) : Type 0 where
+  pub tree : TreeView V
+  pub pins : List PinName
 
 -- A tree without leaves.
 abbrev pub bare : {V : Type 0} → ℕ → ℕ → TreeView V
