@@ -1,14 +1,13 @@
 -- What an advance makes of a tree over which no draft stands.
-use Rattle.std.proofs.Common.{◌≡◌, ℕ, ◌+◌, ◌-◌, ◌*◌, ◌<◌, ◌≤◌, ◌⊎◌, Bool, true, false, List, [], ◌∷◌, ◌++◌, length, take, slice_index_or, Option, Some, None, refl, sym, ap, subst, ◌∙◌, inl, inr, arith, append-nil, length-append}
+use Rattle.std.proofs.Common.{◌≡◌, ℕ, ◌-◌, ◌*◌, ◌≤◌, Bool, true, false, List, [], ◌++◌, length, take, slice_index_or, Option, Some, None, refl, sym, ap, subst, ◌∙◌, inl, inr, arith, append-nil, length-append}
 use Rattle.std.specs.List.{All}
 use Rattle.std.proofs.lemmas.List.{take_all, take-append-le, map-append}
 use Rattle.std.proofs.lemmas.List.Elements.{All-append}
 use Rattle.record_text.specs.declared.kind.Kind.TheVariants.{Growing}
 use Rattle.record_text.specs.declared.shift.Shift.{Shift}
-use Rattle.record_text.specs.Shifts.{FitsShift, shifted, first_after}
+use Rattle.record_text.specs.Shifts.{FitsShift, shifted}
 use Rattle.job_laws.specs.declared.meter.Counts.{Counts}
 use Rattle.job_laws.specs.Counted.{RoseBy}
-use Rattle.job_laws.proofs.CountLaws.{rose_none, rose_more}
 use Rattle.sheets.specs.Sheets.{SheetOf}
 use Rattle.sheets.specs.United.{tables_of}
 use Rattle.pin_table.specs.Views.{CallerView}
@@ -16,18 +15,15 @@ use Rattle.pin_table.specs.Covers.{PinName, Covered, Balanced}
 use Rattle.pin_table.proofs.Covering.{balanced-beside, covered-same}
 use Rattle.pin_table.proofs.Answering.{got-covered}
 use Rattle.tree_laws.specs.Pairs.{PairOf}
-use Rattle.tree_laws.specs.Holds.{some_loose, some_pins}
-use Rattle.tree_laws.specs.Trees.{Shape, Leaves, TreeView, no_shape, IsLeaf, IsDrafted, LooseOnlyIf, distinct_keys}
+use Rattle.tree_laws.specs.Holds.{some_pins}
+use Rattle.tree_laws.specs.Trees.{Shape, Leaves, TreeView, Seen, no_shape, IsLeaf, IsDrafted, LooseOnlyIf, distinct_keys}
+use Rattle.tree_laws.specs.Trades.{Gets}
 use Rattle.tree_laws.specs.declared.hold.Hold.{Hold}
-use Rattle.coalescing_tree.specs.Growing.{Seen, seen_of, Gets, fresh_of, leaves_of, draft_of, draft_loose, draft_pins, last_of, IsTop, IsSound, IsSoundDraft}
+use Rattle.coalescing_tree.specs.Growing.{seen_of, fresh_of, leaves_of, draft_of, draft_loose, draft_pins, last_of, IsTop, IsSound, IsSoundDraft}
 use Rattle.coalescing_tree.specs.declared.draft.Draft.{Draft}
 use Rattle.coalescing_tree.specs.declared.draft.Draft.TheVariants.{Same, Merged}
 use Rattle.coalescing_tree.proofs.TopLaws.{growing-fits}
 use Rattle.coalescing_tree.proofs.SettleLaws.{no-draft-pins, few-undrafted}
-
--- No call was counted.
-pub rose-nothing : (n k : ℕ) (c : Counts) → RoseBy 0 n k c c
-rose-nothing n k c = rose_more 0 0 0 0 n k c c (omega arith) (omega arith) (omega arith) (rose_none c)
 
 -- Sheets of a setting that are leaves of their own settings.
 pub leaves-of-setting : {V : Type 0} (good : ℕ → V → Type 0) (setting : ℕ) (sheets : List (SheetOf V)) → All (λ (s : SheetOf V). IsLeaf good s.setting s) sheets → All (λ (s : SheetOf V). s.setting ≡ setting) sheets → All (IsLeaf good setting) sheets

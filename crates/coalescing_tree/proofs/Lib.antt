@@ -1,4 +1,4 @@
 pub mod TopLaws
-pub mod GetLaws
+pub mod LooseLaws
 pub mod SettleLaws
 pub mod AdvanceLaws

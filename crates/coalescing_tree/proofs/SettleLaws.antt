@@ -1,5 +1,5 @@
 -- What settling and reverting make of a tree, and what they leave of the pins.
-use Rattle.std.proofs.Common.{◌≡◌, ℕ, true, false, ◌+◌, ◌-◌, ◌<◌, ◌≤◌, List, [], ◌∷◌, ◌++◌, length, take, ◌↔◌, IsSome, Option, Some, None, refl, sym, ap, subst, ◌∙◌, arith, append-nil, length-take}
+use Rattle.std.proofs.Common.{◌≡◌, ℕ, true, false, ◌-◌, ◌<◌, ◌≤◌, List, [], ◌++◌, length, take, ◌↔◌, IsSome, Option, Some, None, sym, ap, subst, ◌∙◌, arith, append-nil, length-take}
 use Rattle.std.specs.List.{All}
 use Rattle.std.specs.Option.{option_to_list}
 use Rattle.std.proofs.lemmas.List.{length-map, take_all, take-take, nil_from_length}
@@ -7,15 +7,15 @@ use Rattle.std.proofs.lemmas.List.Elements.{All-take}
 use Rattle.sheets.specs.Sheets.{SheetOf}
 use Rattle.sheets.specs.United.{tables_of}
 use Rattle.pin_table.specs.Views.{CallerView}
-use Rattle.pin_table.specs.Covers.{PinName, Covered, Balanced, count}
+use Rattle.pin_table.specs.Covers.{PinName, Covered, Balanced}
 use Rattle.pin_table.proofs.Covering.{count-append, balanced-then, balanced-from, covered-then, covered-left, covered-right, given-left, given-right, given-append, all-given-later, less-balanced, less-covered}
 use Rattle.tree_laws.specs.Pairs.{PairOf}
 use Rattle.tree_laws.specs.Holds.{some_pins, all_pins}
-use Rattle.tree_laws.specs.Trees.{Leaves, settled, settled_by, reverted, IsLeaf, IsRoot, IsMergeOver}
+use Rattle.tree_laws.specs.Trees.{Leaves, Seen, settled, settled_by, reverted, IsLeaf, IsRoot, IsMergeOver}
 use Rattle.tree_laws.specs.declared.hold.Hold.{Hold}
 use Rattle.tree_laws.specs.declared.hold.Hold.TheVariants.{Pinned, Loose}
 use Rattle.tree_laws.proofs.HoldLaws.{all_pins-push}
-use Rattle.coalescing_tree.specs.Growing.{Seen, seen_of, leaves_of, draft_of, draft_pins, last_of, IsTop, IsSound, IsSoundDraft}
+use Rattle.coalescing_tree.specs.Growing.{seen_of, leaves_of, draft_of, draft_pins, last_of, IsTop, IsSound, IsSoundDraft}
 use Rattle.coalescing_tree.specs.declared.draft.Draft.{Draft}
 use Rattle.coalescing_tree.proofs.TopLaws.{last-push}
 

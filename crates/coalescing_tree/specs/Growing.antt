@@ -1,31 +1,21 @@
 -- What a coalescing tree is made of: its leaves, those of a draft at the end, the top over those that stand, and the draft.
-use Rattle.std.specs.Prelude.{◌≡◌, ℕ, ◌-◌, ◌<◌, ◌≤◌, Bool, true, false, List, [], ◌++◌, length, take, slice_get, All, Option, Some, None}
+use Rattle.std.specs.Prelude.{◌≡◌, ℕ, ◌-◌, ◌<◌, ◌≤◌, Bool, false, List, [], ◌++◌, length, take, slice_get, All, Option, Some, None}
 use Rattle.sheets.specs.Sheets.{SheetOf}
 use Rattle.sheets.specs.United.{tables_of}
 use Rattle.record_text.specs.declared.shift.Shift.{Shift}
 use Rattle.record_text.specs.declared.shift.Shift.TheVariants.{Slide, Splice}
-use Rattle.pin_table.specs.Views.{CallerView}
-use Rattle.pin_table.specs.Covers.{PinName, AreGiven, Got}
+use Rattle.pin_table.specs.Covers.{PinName}
 use Rattle.tree_laws.specs.Pairs.{PairOf}
 use Rattle.tree_laws.specs.Holds.{sheet_of, some_loose, some_pins, all_pins}
-use Rattle.tree_laws.specs.Trees.{Leaves, TreeView, no_shape, IsLeaf, IsMergeOver}
+use Rattle.tree_laws.specs.Trees.{Leaves, Seen, no_shape, IsLeaf, IsMergeOver}
 use Rattle.tree_laws.specs.declared.hold.Hold.{Hold}
 use Rattle.coalescing_tree.specs.declared.draft.Draft.{Draft}
 use Rattle.coalescing_tree.specs.declared.draft.Draft.TheVariants.{Same, Merged}
-
--- A tree with its pins.
-pub record Seen (V : Type 0) : Type 0 where
-  pub tree : TreeView V
-  pub pins : List PinName
 
 -- How many leaves come.
 abbrev pub fresh_of : Shift → ℕ
 fresh_of (Slide first gone places fresh) = fresh
 fresh_of (Splice first gone fresh) = fresh
-
--- The caller got these pins more, and events of its own gave them.
-abbrev pub Gets : CallerView → List PinName → CallerView → Type 0
-Gets old ps new = Got old ps new × AreGiven new ps
 
 module _ {J V M : Type 0} where
   -- The last hold of a list.

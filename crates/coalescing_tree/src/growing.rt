@@ -7,7 +7,8 @@ ghost use Rattle.pin_table.specs.OwnEvents.{Met};
 ghost use Rattle.tree_laws.specs.Holds.{some_loose, all_pins};
 ghost use Rattle.tree_laws.specs.Pairs.{pair_digest};
 ghost use Rattle.tree_laws.specs.Trees.{IsLeaf, IsWithin, distinct_keys};
-ghost use Rattle.coalescing_tree.specs.Growing.{Gets, last_of, IsTop, IsSoundDraft, draft_loose, draft_pins};
+ghost use Rattle.tree_laws.specs.Trades.{Gets};
+ghost use Rattle.coalescing_tree.specs.Growing.{last_of, IsTop, IsSoundDraft, draft_loose, draft_pins};
 
 use crate::draft::Draft;
 use crate::root::root_over;

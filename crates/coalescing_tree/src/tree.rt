@@ -28,7 +28,8 @@ pub struct CoalescingTree<J: Job> {
 
 impl<J: Job> Model for CoalescingTree<J> {
     ghost use Rattle.tree_laws.specs.Pairs.{pair_digest};
-    ghost use Rattle.coalescing_tree.specs.Growing.{Seen, seen_of, IsSound};
+    ghost use Rattle.tree_laws.specs.Trees.{Seen};
+    ghost use Rattle.coalescing_tree.specs.Growing.{seen_of, IsSound};
 
     ghost Value = { Seen J.Val };
 

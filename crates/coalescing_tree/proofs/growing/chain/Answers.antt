@@ -1,5 +1,4 @@
-use Rattle.std.proofs.Common.{◌≡◌, ℕ, ◌+◌, ◌-◌, ◌*◌, ◌<◌, ◌≤◌, true, List, [], ◌∷◌, ◌++◌, length, take, vec_len, refl, sym, subst, ◌∙◌, arith, length-take}
-use Rattle.std.specs.List.{All}
+use Rattle.std.proofs.Common.{◌≡◌, ℕ, ◌+◌, ◌-◌, ◌*◌, ◌<◌, [], ◌∷◌, ◌++◌, length, take, vec_len, sym, subst, ◌∙◌, arith, length-take}
 use Rattle.std.proofs.lemmas.List.Elements.{All-take, All-get_or, All-cons, All-nil}
 use Rattle.std.proofs.lemmas.List.{take_more}
 use Rattle.job_laws.specs.Counted.{RoseBy}
@@ -8,8 +7,9 @@ use Rattle.tree_laws.specs.Pairs.{pair_of, pair_digest}
 use Rattle.tree_laws.specs.Holds.{all_pins}
 use Rattle.tree_laws.specs.Trees.{IsLeaf, IsWithin, distinct_keys}
 use Rattle.tree_laws.proofs.LeafLaws.{leaf-over, cost-within, merged-more, merged-within}
+use Rattle.tree_laws.proofs.GetLaws.{gets-after, gets-push}
 use Rattle.coalescing_tree.proofs.TopLaws.{top-push, top-read, over-not_none}
-use Rattle.coalescing_tree.proofs.GetLaws.{gets-after, gets-push, loose-push, loose-after}
+use Rattle.coalescing_tree.proofs.LooseLaws.{loose-push, loose-after}
 use Rattle.coalescing_tree.proofs.growing.chain.Goals as goal
 
 pub unreachable-requires : goal.unreachable-requires
@@ -66,7 +66,7 @@ fresh-preserved g c =
       room = c.push_reserved.ensures.capacity ∙ c.fresh.invariant.room;
       count = (let n = c.push_reserved.ensures.len in let m = c.fresh.invariant.count in omega (arith, n, m));
       top = top-push g.J.Job.good g.J.Job.joined s ss (x ∷ []) (take (c.fresh.i + 1) c.args.fresh.now) left x hs new c.in-Ok.hold (g.met.J.Job.join_laws s) leaves (All-cons (IsLeaf g.J.Job.good s) x [] leaf (All-nil (IsLeaf g.J.Job.good s))) over (leaf-over g.J.Job.good g.J.Job.joined s x leaf) c.in-Ok.ensures.value whole c.push_reserved.ensures.items;
-      got = gets-push d (pair_of left x) u v w hs new c.in-Ok.hold c.push_reserved.ensures.items c.fresh.invariant.got c.in-Ok.ensures.held;
+      got = gets-push d (pair_of left x) u v w hs new c.in-Ok.hold c.push_reserved.ensures.items c.in-Ok.ensures.held c.fresh.invariant.got;
       loose = loose-push d (pair_of left x) u v w hs new c.in-Ok.hold c.push_reserved.ensures.items c.fresh.invariant.got.0.later c.in-Ok.ensures.held;
       counted = λ ts within.
           let cost = cost-within g.J.Job.good g.J.Job.joined s ss left x ts leaves (All-take (λ (y : SheetOf g.row.J-Val.Denot). IsWithin y.entries ts) c.fresh.i c.args.fresh.now within) over in

@@ -5,7 +5,8 @@ use Rattle.pin_table.specs.OwnEvents.{Met}
 use Rattle.tree_laws.specs.Pairs.{pair_digest}
 use Rattle.tree_laws.specs.Holds.{some_loose, all_pins}
 use Rattle.tree_laws.specs.Trees.{IsWithin, distinct_keys}
-use Rattle.coalescing_tree.specs.Growing.{Gets, last_of, IsTop}
+use Rattle.tree_laws.specs.Trades.{Gets}
+use Rattle.coalescing_tree.specs.Growing.{last_of, IsTop}
 use Rattle.coalescing_tree.proofs.growing.chain.Given as goal
 
 abbrev pub invariant-fresh : goal.invariant-fresh

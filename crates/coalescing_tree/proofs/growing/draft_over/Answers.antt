@@ -2,8 +2,8 @@ use Rattle.std.proofs.Common.{◌≡◌, true, false, []}
 use Rattle.pin_table.proofs.Covering.{balanced-same}
 use Rattle.tree_laws.specs.Pairs.{pair_digest}
 use Rattle.tree_laws.specs.Holds.{all_pins}
-use Rattle.coalescing_tree.proofs.AdvanceLaws.{rose-nothing}
-use Rattle.coalescing_tree.proofs.GetLaws.{gets-none, gets-covered, gets-undone}
+use Rattle.tree_laws.proofs.LeafLaws.{rose-still}
+use Rattle.tree_laws.proofs.GetLaws.{gets-none, gets-covered, gets-undone}
 use Rattle.coalescing_tree.proofs.growing.draft_over.Goals as goal
 
 pub returns-then-standing-leaves-clause-got : goal.returns-then-standing-leaves-clause-got
@@ -13,13 +13,13 @@ pub returns-then-standing-leaves-clause-loose : goal.returns-then-standing-leave
 returns-then-standing-leaves-clause-loose g c = λ h. absurd (let no : false ≡ true = h in cc)
 
 pub returns-then-standing-leaves-clause-counted : goal.returns-then-standing-leaves-clause-counted
-returns-then-standing-leaves-clause-counted g c = rose-nothing _ _ (g.J.Meter.Meter.counts c.args.m.now)
+returns-then-standing-leaves-clause-counted g c = rose-still _ _ (g.J.Meter.Meter.counts c.args.m.now)
 
 pub returns-in-Err-clause-err : goal.returns-in-Err-clause-err
 returns-in-Err-clause-err g c = balanced-same c.args.caller.now []
 
 pub returns-in-Err-clause-counted : goal.returns-in-Err-clause-counted
-returns-in-Err-clause-counted g c = rose-nothing _ _ (g.J.Meter.Meter.counts c.args.m.now)
+returns-in-Err-clause-counted g c = rose-still _ _ (g.J.Meter.Meter.counts c.args.m.now)
 
 pub let_all_go-requires-clause-covered : goal.let_all_go-requires-clause-covered
 let_all_go-requires-clause-covered g c =

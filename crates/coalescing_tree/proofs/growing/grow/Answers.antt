@@ -1,4 +1,4 @@
-use Rattle.std.proofs.Common.{◌≡◌, ℕ, ◌+◌, ◌-◌, ◌*◌, ◌<◌, ◌≤◌, List, [], ◌∷◌, ◌++◌, length, take, drop, vec_len, sym, ap, subst, ◌∙◌, arith}
+use Rattle.std.proofs.Common.{◌≡◌, ◌+◌, ◌-◌, ◌<◌, List, ◌++◌, length, take, sym, ap, subst, ◌∙◌, arith}
 use Rattle.std.specs.List.{All}
 use Rattle.std.proofs.lemmas.List.Elements.{All-take, All-drop}
 use Rattle.sheets.specs.Sheets.{SheetOf}
@@ -7,8 +7,9 @@ use Rattle.tree_laws.specs.Pairs.{pair_of, pair_digest}
 use Rattle.tree_laws.specs.Holds.{all_pins}
 use Rattle.tree_laws.specs.Trees.{IsLeaf, IsWithin, distinct_keys}
 use Rattle.tree_laws.proofs.LeafLaws.{over-none, cost-within, all-within, merged-more, merged-within}
+use Rattle.tree_laws.proofs.GetLaws.{gets-after, gets-push}
 use Rattle.coalescing_tree.proofs.TopLaws.{top-push, top-read, top-same, over-not_none}
-use Rattle.coalescing_tree.proofs.GetLaws.{gets-after, gets-push, loose-push, loose-after}
+use Rattle.coalescing_tree.proofs.LooseLaws.{loose-push, loose-after}
 use Rattle.coalescing_tree.proofs.growing.grow.Goals as goal
 
 pub chain-requires-clause-leaves : goal.chain-requires-clause-leaves
@@ -91,7 +92,7 @@ returns-in-Ok-merge_through-clause-top g c =
 pub returns-in-Ok-merge_through-clause-got : goal.returns-in-Ok-merge_through-clause-got
 returns-in-Ok-merge_through-clause-got g c =
     let d = pair_digest g.J.Job.encoded in
-    gets-push d (pair_of c.in-Some-root_over.left.now c.in-Some.right.now) c.args.caller.now c.chain.new.caller c.merge_through.new.caller c.chain.new.made.items c.push_reserved.new.self.items c.in-Ok-merge_through.hold c.push_reserved.ensures.items c.chain.ensures.got c.in-Ok-merge_through.ensures.held
+    gets-push d (pair_of c.in-Some-root_over.left.now c.in-Some.right.now) c.args.caller.now c.chain.new.caller c.merge_through.new.caller c.chain.new.made.items c.push_reserved.new.self.items c.in-Ok-merge_through.hold c.push_reserved.ensures.items c.in-Ok-merge_through.ensures.held c.chain.ensures.got
 
 pub returns-in-Ok-merge_through-clause-loose : goal.returns-in-Ok-merge_through-clause-loose
 returns-in-Ok-merge_through-clause-loose g c =

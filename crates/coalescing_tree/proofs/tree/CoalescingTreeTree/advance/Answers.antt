@@ -3,7 +3,8 @@ use Rattle.std.specs.Option.{option_copied}
 use Rattle.pin_table.specs.OwnEvents.{Met}
 use Rattle.pin_table.proofs.Covering.{balanced-same}
 use Rattle.tree_laws.specs.Pairs.{pair_digest}
-use Rattle.coalescing_tree.proofs.AdvanceLaws.{rose-nothing, kept-sound, kept-view, kept-few, kept-loose, kept-balanced, kept-covered, grown-balanced, grown-covered, grown-cut, grown-sound, grown-drafted, grown-counted, grown-loose, grown-some, read-leaves, read-within, read-top}
+use Rattle.tree_laws.proofs.LeafLaws.{rose-still}
+use Rattle.coalescing_tree.proofs.AdvanceLaws.{kept-sound, kept-view, kept-few, kept-loose, kept-balanced, kept-covered, grown-balanced, grown-covered, grown-cut, grown-sound, grown-drafted, grown-counted, grown-loose, grown-some, read-leaves, read-within, read-top}
 use Rattle.coalescing_tree.proofs.tree.CoalescingTreeTree.advance.Goals as goal
 
 pub invariant_of-self : goal.invariant_of-self
@@ -38,11 +39,11 @@ returns-in-Err-clause-loose g c =
 
 pub returns-in-Err-clause-counted : goal.returns-in-Err-clause-counted
 returns-in-Err-clause-counted g c =
-    rose-nothing _ _ (g.J.Meter.Meter.counts c.args.m.now)
+    rose-still _ _ (g.J.Meter.Meter.counts c.args.m.now)
 
 pub returns-in-Err-clause-tight : goal.returns-in-Err-clause-tight
 returns-in-Err-clause-tight g c =
-    λ plain unmet. (rose-nothing _ 0 (g.J.Meter.Meter.counts c.args.m.now)).merges
+    λ plain unmet. (rose-still _ 0 (g.J.Meter.Meter.counts c.args.m.now)).merges
 
 pub draft_over-requires-clause-within : goal.draft_over-requires-clause-within
 draft_over-requires-clause-within g c =

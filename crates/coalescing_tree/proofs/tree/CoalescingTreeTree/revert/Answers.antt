@@ -1,7 +1,8 @@
 use Rattle.std.proofs.Common.{◌≡◌, ◌++◌, Some, sym, ap, ◌∙◌}
 use Rattle.tree_laws.specs.Pairs.{pair_digest}
 use Rattle.tree_laws.specs.Holds.{some_pins}
-use Rattle.coalescing_tree.specs.Growing.{Seen, draft_pins}
+use Rattle.tree_laws.specs.Trees.{Seen}
+use Rattle.coalescing_tree.specs.Growing.{draft_pins}
 use Rattle.coalescing_tree.specs.declared.draft.Draft.TheVariants.{Merged}
 use Rattle.coalescing_tree.proofs.SettleLaws.{few-undrafted, reverted-sound, reverted-view, made-are-covered, reverted-covered, reverted-balanced}
 use Rattle.coalescing_tree.proofs.tree.CoalescingTreeTree.revert.Goals as goal

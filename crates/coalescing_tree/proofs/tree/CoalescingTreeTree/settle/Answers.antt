@@ -1,9 +1,10 @@
 use Rattle.std.proofs.Common.{◌≡◌, [], ◌++◌, Some, sym, ap, subst, ◌∙◌, length, arith}
 use Rattle.tree_laws.specs.Pairs.{pair_digest}
-use Rattle.coalescing_tree.specs.Growing.{Seen, leaves_of, draft_of, draft_pins, last_of, IsSoundDraft}
+use Rattle.coalescing_tree.specs.Growing.{draft_of, draft_pins, IsSoundDraft}
 use Rattle.coalescing_tree.specs.declared.draft.Draft.TheVariants.{Merged}
 use Rattle.coalescing_tree.proofs.SettleLaws.{pop-last, few-undrafted, settled-sound, settled-view, rest-are-covered, old-is-covered, settled-covered, settled-balanced}
 use Rattle.tree_laws.specs.Holds.{some_pins}
+use Rattle.tree_laws.specs.Trees.{Seen}
 use Rattle.coalescing_tree.proofs.tree.CoalescingTreeTree.settle.Goals as goal
 
 pub let_all_go-requires-clause-covered : goal.let_all_go-requires-clause-covered
