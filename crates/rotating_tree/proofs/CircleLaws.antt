@@ -1,5 +1,5 @@
 -- A circle from one call to the next.
-use Rattle.std.proofs.Common.{◌≡◌, ◌⊎◌, inl, inr, ℕ, suc, zero, ◌+◌, ◌-◌, ◌*◌, ◌<◌, ◌≤◌, ◌^◌, arith, sym, ap, ◌∙◌, List, [], ◌∷◌, ◌++◌, length, length-append, length-take, length-drop, refl, subst, Option, Some, None, take, drop, map}
+use Rattle.std.proofs.Common.{◌≡◌, ◌⊎◌, inl, inr, ℕ, suc, zero, ◌+◌, ◌-◌, ◌*◌, ◌<◌, ◌≤◌, ◌^◌, arith, sym, ap, ◌∙◌, List, [], ◌∷◌, ◌++◌, length, length-append, length-drop, refl, subst, Option, Some, None, take, drop, map}
 use Rattle.std.proofs.lemmas.List.{append-nil, drop_all, nil_from_length, length-map, map-append, drop-map}
 use Rattle.std.specs.Prelude.{All}
 use Rattle.sheets.specs.Sheets.{SheetOf}
@@ -8,7 +8,7 @@ use Rattle.record_text.specs.Shifts.{put_at}
 use Rattle.definitions.specs.Tables.{IsGoodJoin}
 use Rattle.tree_laws.specs.Pairs.{PairOf}
 use Rattle.tree_laws.specs.Trees.{IsLeaf, IsWithin, IsMergeOver}
-use Rattle.rotating_tree.specs.declared.node.Node.{Node, Leaf, Fork'}
+use Rattle.rotating_tree.specs.declared.node.Node.{Node}
 use Rattle.rotating_tree.specs.declared.standing.Standing.{Standing}
 use Rattle.rotating_tree.specs.Nodes.{AllSome, IsSound, IsEven, IsSettled, IsMarked, undrafted, taken, size, height, now_of, node_pins}
 use Rattle.rotating_tree.specs.Nodes.{places as places_of}

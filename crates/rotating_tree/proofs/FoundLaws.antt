@@ -1,15 +1,14 @@
 -- What is said of all leaves, said of places, of slots and of the nodes over them.
-use Rattle.std.proofs.Common.{◌≡◌, ◌⊎◌, inl, inr, ℕ, suc, zero, ◌+◌, ◌-◌, ◌<◌, ◌≤◌, arith, sym, ap, ◌∙◌, List, [], ◌∷◌, ◌++◌, length, length-append, refl, subst, Option, Some, None, set, take, drop, map, append-nil}
+use Rattle.std.proofs.Common.{◌≡◌, ℕ, suc, zero, ◌-◌, ◌≤◌, arith, sym, ap, ◌∙◌, List, [], ◌∷◌, ◌++◌, length, length-append, refl, subst, Option, Some, None, set, take, drop, map, append-nil}
 use Rattle.std.proofs.lemmas.List.{take-append-drop, take-take}
 use Rattle.std.specs.Prelude.{IfSome}
-use Rattle.definitions.specs.Tables.{IsRising, HasGoodValues, IsGoodJoin, merged}
-use Rattle.definitions.proofs.TableLaws.{good-merged, IsRising-merged}
+use Rattle.definitions.specs.Tables.{IsRising, HasGoodValues, IsGoodJoin}
 use Rattle.sheets.specs.Sheets.{SheetOf}
 use Rattle.sheets.specs.United.{tables_of}
 use Rattle.tree_laws.specs.Pairs.{merge_of, pair_of}
 use Rattle.tree_laws.specs.Trees.{IsLeaf, IsWithin}
-use Rattle.tree_laws.proofs.KeyCounts.{within-merged, within-first, within-next}
-use Rattle.tree_laws.specs.Holds.{sheet_of}
+use Rattle.tree_laws.proofs.KeyCounts.{within-first, within-next}
+use Rattle.tree_laws.proofs.LeafLaws.{leaf-merge, within-merge}
 use Rattle.rotating_tree.specs.declared.part.Part.{Part}
 use Rattle.rotating_tree.specs.declared.part.Part.TheVariants.{Void, Shared, Merged}
 use Rattle.rotating_tree.specs.declared.node.Node.{Node, Leaf, Fork'}
@@ -89,18 +88,6 @@ shared-leaf good setting item leaf same rising values is = subst (IsLeaf good se
   rising = rising;
 })
 
-module _ {V : Type 0} (joined : ℕ → V → V → V) where
-  -- Merges of leaves are like leaves.
-  pub leaf-merges : (good : ℕ → V → Type 0) (laws : (s : ℕ) → IsGoodJoin (good s) (joined s)) (setting : ℕ) (a b : SheetOf V) → IsLeaf good setting a → IsLeaf good setting b → IsLeaf good setting (merge_of joined (pair_of a b))
-  leaf-merges good laws setting a b x y = record {
-    setting_is = x.setting_is;
-    values = subst (λ (s : ℕ). HasGoodValues (good setting) (merged (joined s) a.entries b.entries)) (sym x.setting_is) (good-merged (laws setting) a.entries b.entries x.values y.values);
-    rising = IsRising-merged (joined a.setting) a.entries b.entries;
-  }
-
-  pub within-merges : (ts : List (List (List ℕ × V))) (a b : SheetOf V) → IsWithin a.entries ts → IsWithin b.entries ts → IsWithin (merge_of joined (pair_of a b)).entries ts
-  within-merges ts a b x y = within-merged (joined a.setting) a.entries b.entries ts x y
-
 module _ {J V M : Type 0} (joined : ℕ → V → V → V) where
   -- What holds of leaves, and of a merge where it holds of what is merged, holds of nodes.
   module _ (P : SheetOf V → Type 0) (merges : (a b : SheetOf V) → P a → P b → P (merge_of joined (pair_of a b))) where
@@ -123,7 +110,7 @@ module _ {J V M : Type 0} (joined : ℕ → V → V → V) where
     sound-so (Fork' p l q r now draft) s a = joined-so (now_of l) (now_of r) now s.2 (sound-so l s.0 (all-left P (places l) (places r) a)) (sound-so r s.1 (all-right P (places l) (places r) a))
 
   pub leaf-nodes : (good : ℕ → V → Type 0) (laws : (s : ℕ) → IsGoodJoin (good s) (joined s)) (setting : ℕ) (n : Node J V M) → IsSound joined n → AllSome (IsLeaf good setting) (places n) → IfSome (now_of n) (IsLeaf good setting)
-  leaf-nodes good laws setting n s a = sound-so (IsLeaf good setting) (leaf-merges joined good laws setting) n s a
+  leaf-nodes good laws setting n s a = sound-so (IsLeaf good setting) (leaf-merge joined good setting (laws setting)) n s a
 
   pub within-nodes : (ts : List (List (List ℕ × V))) (n : Node J V M) → IsSound joined n → AllSome (λ (s : SheetOf V). IsWithin s.entries ts) (places n) → IfSome (now_of n) (λ (s : SheetOf V). IsWithin s.entries ts)
-  within-nodes ts n s a = sound-so (λ (s : SheetOf V). IsWithin s.entries ts) (within-merges joined ts) n s a
+  within-nodes ts n s a = sound-so (λ (s : SheetOf V). IsWithin s.entries ts) (within-merge joined ts) n s a

@@ -1,7 +1,7 @@
 -- A tree that is as low as its places allow has no more than their levels.
-use Rattle.std.proofs.Common.{◌≡◌, ◌⊎◌, inl, inr, ℕ, suc, zero, ◌+◌, ◌-◌, ◌*◌, ◌<◌, ◌≤◌, ◌^◌, arith, sym, ap, ◌∙◌, refl, subst, min}
+use Rattle.std.proofs.Common.{◌≡◌, inl, inr, ℕ, suc, zero, ◌*◌, ◌<◌, ◌≤◌, ◌^◌, arith, subst}
 use Rattle.std.proofs.lemmas.Bool.{cases_lt}
-use Rattle.std.proofs.Math.Nat.{mul-le-mul_left, mul-le-mul_right, pow-suc}
+use Rattle.std.proofs.Math.Nat.{mul-le-mul_right, pow-suc}
 use Rattle.std.proofs.Math.Pow.{pow_mono}
 use Rattle.job_laws.specs.declared.meter.Counts.{Counts}
 use Rattle.job_laws.specs.Counted.{RoseBy}

@@ -1,5 +1,5 @@
 -- Loose nodes, and how many pins a tree has.
-use Rattle.std.proofs.Common.{◌≡◌, ◌⊎◌, inl, inr, ℕ, ◌+◌, ◌-◌, ◌<◌, ◌≤◌, ◌||◌, arith, sym, ap, ◌∙◌, List, [], ◌∷◌, ◌++◌, length, length-append, refl, subst, Option, Some, None, Bool, true, false}
+use Rattle.std.proofs.Common.{◌≡◌, ◌⊎◌, inl, inr, ℕ, ◌+◌, ◌-◌, ◌≤◌, ◌||◌, arith, sym, ap, ◌∙◌, List, [], ◌∷◌, ◌++◌, length, length-append, refl, subst, Option, Some, None, Bool, true, false}
 use Rattle.sheets.specs.Sheets.{SheetOf}
 use Rattle.tree_laws.specs.Pairs.{PairOf}
 use Rattle.tree_laws.specs.Holds.{hold_pins}
@@ -10,7 +10,7 @@ use Rattle.rotating_tree.specs.declared.part.Part.TheVariants.{Void, Shared, Mer
 use Rattle.rotating_tree.specs.declared.draft.Draft.{Draft}
 use Rattle.rotating_tree.specs.declared.draft.Draft.TheVariants.{Same, Due, New}
 use Rattle.rotating_tree.specs.declared.node.Node.{Node, Leaf, Fork'}
-use Rattle.rotating_tree.specs.Nodes.{IsPlain, IsJoined, IsSound, IsSettled, IsStaged, IsStagedLeaf, StagedBy, part_sheet, part_pins, draft_pins, node_pins, node_loose, part_loose, next_by, taken, places, now_of, drafts}
+use Rattle.rotating_tree.specs.Nodes.{IsPlain, IsJoined, IsSound, IsSettled, IsStagedLeaf, StagedBy, part_sheet, part_pins, draft_pins, node_pins, next_by, places, now_of}
 use Rattle.rotating_tree.specs.Circles.{found}
 use Rattle.rotating_tree.proofs.FoundLaws.{found-append}
 

@@ -1,9 +1,9 @@
 -- Trees and their drafts: what stays when drafts are put in, made, taken or dropped.
-use Rattle.std.proofs.Common.{◌≡◌, ◌⊎◌, inl, inr, ℕ, suc, zero, ◌+◌, ◌*◌, ◌<◌, ◌≤◌, ◌||◌, arith, sym, ap, ◌∙◌, List, [], ◌∷◌, ◌++◌, length, length-append, refl, subst, Option, Some, None, set, Bool, true, false, true≢false, Box, Global}
+use Rattle.std.proofs.Common.{◌≡◌, ℕ, ◌+◌, ◌*◌, ◌<◌, ◌≤◌, arith, sym, ap, ◌∙◌, length, length-append, refl, subst, Option, None, true, false, true≢false, Box, Global}
 use Rattle.std.proofs.Math.Nat.{mul-le-mul_left}
 use Rattle.sheets.specs.Sheets.{SheetOf}
 use Rattle.rotating_tree.specs.declared.part.Part.{Part}
-use Rattle.rotating_tree.specs.declared.part.Part.TheVariants.{Void, Shared, Merged}
+use Rattle.rotating_tree.specs.declared.part.Part.TheVariants.{Void}
 use Rattle.rotating_tree.specs.declared.draft.Draft.{Draft}
 use Rattle.rotating_tree.specs.declared.draft.Draft.TheVariants.{Same, Due, New}
 use Rattle.rotating_tree.specs.declared.node.Node.{Node, Leaf, Fork'}

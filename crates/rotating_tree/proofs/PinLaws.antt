@@ -1,11 +1,11 @@
 -- The pins of a tree and of its drafts, when drafts are taken or dropped.
-use Rattle.std.proofs.Common.{◌≡◌, ◌⊎◌, inl, inr, ℕ, ◌+◌, ◌<◌, ◌≤◌, ◌||◌, arith, sym, ap, ◌∙◌, List, [], ◌∷◌, ◌++◌, length, length-append, refl, subst, Option, Some, None, Bool, true, false, append_assoc, append-nil}
+use Rattle.std.proofs.Common.{◌≡◌, ℕ, arith, sym, List, [], ◌++◌, subst, append_assoc, append-nil}
 use Rattle.pin_table.specs.Views.{CallerView}
 use Rattle.pin_table.specs.Covers.{PinName, AreGiven, Covered, Balanced, Got, IsLater, count}
-use Rattle.pin_table.proofs.Covering.{count-append, balanced-then, balanced-beside, balanced-before, balanced-from, balanced-order, got-balanced, all-given-later, given-append, given-left, given-right, covered-then, covered-left, covered-right}
+use Rattle.pin_table.proofs.Covering.{count-append, balanced-then, balanced-beside, balanced-before, balanced-from, balanced-order, got-balanced, all-given-later, given-append, given-left, given-right, covered-then}
 use Rattle.tree_laws.specs.Pairs.{PairOf}
+use Rattle.tree_laws.proofs.TradeLaws.{balanced-both}
 use Rattle.rotating_tree.specs.declared.part.Part.{Part}
-use Rattle.rotating_tree.specs.declared.part.Part.TheVariants.{Void, Shared, Merged}
 use Rattle.rotating_tree.specs.declared.draft.Draft.{Draft}
 use Rattle.rotating_tree.specs.declared.draft.Draft.TheVariants.{Same, Due, New}
 use Rattle.rotating_tree.specs.declared.node.Node.{Node, Leaf, Fork'}
@@ -26,10 +26,6 @@ balanced-three u v w x hs bs cs ds es fs a b c =
     (balanced-then v w x (ds ++ (bs ++ cs)) (ds ++ (es ++ cs)) (ds ++ (es ++ fs)) (balanced-beside v w ds (bs ++ cs) (es ++ cs) (balanced-before v w cs bs es b))
     (balanced-beside w x ds (es ++ cs) (es ++ fs) (balanced-beside w x es cs fs c)))
 
-pub balanced-two : (u v w : CallerView) (hs bs ds es : List PinName) → Balanced u hs v ds → Balanced v bs w es → Balanced u (hs ++ bs) w (ds ++ es)
-balanced-two u v w hs bs ds es a b =
-    balanced-then u v w (hs ++ bs) (ds ++ bs) (ds ++ es) (balanced-before u v bs hs ds a) (balanced-beside v w ds bs es b)
-
 -- Two lists of pins that go up to their order.
 pub swap-counts : (hs bs : List PinName) (s id : ℕ) → count s id (hs ++ bs) ≡ count s id (bs ++ hs)
 swap-counts hs bs s id = omega (arith, count-append s id hs bs, count-append s id bs hs)
@@ -38,7 +34,7 @@ swap-counts hs bs s id = omega (arith, count-append s id hs bs, count-append s i
 pub fork-balanced : (u v w x : CallerView) (hs bs ds es ms : List PinName) → Balanced u hs v ds → Balanced v bs w es → Got w ms x → Balanced u (hs ++ bs) x (ds ++ (es ++ ms))
 fork-balanced u v w x hs bs ds es ms a b got =
     subst (λ (ps : List PinName). Balanced u (hs ++ bs) x ps) (append_assoc ds es ms)
-    (balanced-then u w x (hs ++ bs) (ds ++ es) ((ds ++ es) ++ ms) (balanced-two u v w hs bs ds es a b) (got-balanced w x (ds ++ es) ms got))
+    (balanced-then u w x (hs ++ bs) (ds ++ es) ((ds ++ es) ++ ms) (balanced-both u v w hs bs ds es a b) (got-balanced w x (ds ++ es) ms got))
 
 pub fork-given : (u v w x : CallerView) (hs bs ds es ms : List PinName) → IsLater u v → IsLater v w → IsLater w x → (AreGiven u hs → AreGiven v ds) → (AreGiven v bs → AreGiven w es) → AreGiven x ms → AreGiven u (hs ++ bs) → AreGiven x (ds ++ (es ++ ms))
 fork-given u v w x hs bs ds es ms a b c f g made all =
@@ -126,14 +122,3 @@ module _ {J V M : Type 0} (digest_of : PairOf V → List ℕ) where
       (given-append c (node_pins digest_of (undrafted r)) (part_pins digest_of now ++ [])
       (given-undrafted c r (given-left c (node_pins digest_of r) (part_pins digest_of now ++ draft_pins digest_of draft) rest))
       (given-stands c now draft (given-right c (node_pins digest_of r) (part_pins digest_of now ++ draft_pins digest_of draft) rest)))
-
-  -- After one half was settled or dropped, the pins beside it are covered still.
-  pub settled-rest : (u v : CallerView) (l m : Node J V M) (os : List PinName) → m ≡ taken l → Balanced u (node_pins digest_of l) v (node_pins digest_of m) → Covered u (node_pins digest_of l ++ os) → Covered v os
-  settled-rest u v l m os is b c =
-      let given = subst (λ (n : Node J V M). AreGiven v (node_pins digest_of n)) (sym is) (given-taken v l (all-given-later u v (node_pins digest_of l) b.later (given-left u (node_pins digest_of l) os c.given))) in
-      covered-right v (node_pins digest_of m) os (beside-covered u v (node_pins digest_of l) (node_pins digest_of m) b os c given)
-
-  pub dropped-rest : (u v : CallerView) (l m : Node J V M) (os : List PinName) → m ≡ undrafted l → Balanced u (node_pins digest_of l) v (node_pins digest_of m) → Covered u (node_pins digest_of l ++ os) → Covered v os
-  dropped-rest u v l m os is b c =
-      let given = subst (λ (n : Node J V M). AreGiven v (node_pins digest_of n)) (sym is) (given-undrafted v l (all-given-later u v (node_pins digest_of l) b.later (given-left u (node_pins digest_of l) os c.given))) in
-      covered-right v (node_pins digest_of m) os (beside-covered u v (node_pins digest_of l) (node_pins digest_of m) b os c given)

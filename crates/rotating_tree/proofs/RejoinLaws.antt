@@ -1,9 +1,9 @@
 -- A node made anew from its halves: its pins, its merges, and whether it is loose.
-use Rattle.std.proofs.Common.{◌≡◌, ◌⊎◌, inl, inr, ℕ, ◌+◌, ◌*◌, ◌<◌, ◌≤◌, ◌||◌, arith, sym, ap, ◌∙◌, List, [], ◌++◌, refl, subst, true, false, Bool}
+use Rattle.std.proofs.Common.{◌≡◌, ◌⊎◌, inl, inr, ℕ, ◌+◌, ◌*◌, ◌<◌, ◌≤◌, ◌||◌, arith, sym, ap, ◌∙◌, List, [], ◌++◌, subst, true, false, Bool}
 use Rattle.std.proofs.Math.Nat.{mul-le-mul_right}
 use Rattle.job_laws.specs.declared.meter.Counts.{Counts}
 use Rattle.job_laws.specs.Counted.{RoseBy}
-use Rattle.job_laws.proofs.CountLaws.{rose_none, rose_then, rose_more}
+use Rattle.job_laws.proofs.CountLaws.{rose_then, rose_more}
 use Rattle.pin_table.specs.Views.{CallerView}
 use Rattle.pin_table.specs.Covers.{PinName, IsLater}
 use Rattle.pin_table.specs.OwnEvents.{Met}
@@ -12,15 +12,10 @@ use Rattle.pin_table.proofs.OwnEvents.{any-met-later, any-met-before}
 use Rattle.tree_laws.specs.Pairs.{PairOf}
 use Rattle.rotating_tree.specs.declared.part.Part.{Part}
 use Rattle.rotating_tree.specs.declared.draft.Draft.{Draft}
-use Rattle.rotating_tree.specs.declared.draft.Draft.TheVariants.{Same, Due, New}
 use Rattle.rotating_tree.specs.declared.node.Node.{Node}
-use Rattle.rotating_tree.specs.Nodes.{StagedBy, next_by, part_pins, draft_pins, node_pins, part_loose, node_loose, taken}
+use Rattle.rotating_tree.specs.Nodes.{StagedBy, next_by, part_pins, draft_pins, node_pins, part_loose}
 use Rattle.rotating_tree.proofs.NodeLaws.{fork-merges, redraft-merges}
-use Rattle.rotating_tree.proofs.LooseLaws.{or-cases, or-left, or-right, or-met, or-same, or-wider, staged-fork-pins, staged-next}
-
--- Nothing rose, so it rose by at most anything.
-pub rose-still : (a b c : ℕ) (x : Counts) → RoseBy a b c x x
-rose-still a b c x = rose_more 0 0 0 a b c x x (omega arith) (omega arith) (omega arith) (rose_none x)
+use Rattle.rotating_tree.proofs.LooseLaws.{or-cases, or-left, or-right, or-same, or-wider, staged-fork-pins, staged-next}
 
 -- Both halves, and one merge more.
 pub fork-rose : (hl hr dl dr keys : ℕ) (x0 x1 x2 x3 : Counts) → hl ≡ hr → 0 < dl + dr → RoseBy 0 (hl * dl) (hl * dl * keys) x0 x1 → RoseBy 0 (hr * dr) (hr * dr * keys) x1 x2 → RoseBy 0 1 keys x2 x3 → RoseBy 0 ((hl + 1) * (dl + dr)) ((hl + 1) * (dl + dr) * keys) x0 x3

@@ -1,13 +1,11 @@
 -- The root of a circle is the merge of its leaves in the window's order.
-use Rattle.std.proofs.Common.{◌≡◌, ℕ, suc, zero, ◌-◌, ◌<◌, ◌≤◌, arith, sym, ap, ◌∙◌, List, [], ◌∷◌, ◌++◌, refl, subst, Option, Some, None, take, drop, map, fold, append-nil}
+use Rattle.std.proofs.Common.{◌≡◌, ℕ, ◌≤◌, sym, ap, ◌∙◌, List, [], ◌∷◌, ◌++◌, refl, subst, Option, Some, None, take, drop, fold, append-nil}
 use Rattle.std.proofs.lemmas.List.{map-append, take-append-drop, take-take}
-use Rattle.definitions.specs.Tables.{HasGoodValues, IsGoodJoin, merged}
+use Rattle.definitions.specs.Tables.{IsGoodJoin, merged}
 use Rattle.definitions.proofs.TableLaws.{merged_comm}
 use Rattle.sheets.specs.Sheets.{SheetOf}
 use Rattle.sheets.specs.United.{tables_of}
-use Rattle.tree_laws.specs.Pairs.{merge_of, pair_of}
 use Rattle.tree_laws.specs.Trees.{IsLeaf, IsMergeOver, merged_all}
-use Rattle.tree_laws.specs.Holds.{sheet_of}
 use Rattle.tree_laws.proofs.MergedAll.{AllGoodTables, good-fold, merged_all-append}
 use Rattle.rotating_tree.specs.declared.part.Part.{Part}
 use Rattle.rotating_tree.specs.declared.part.Part.TheVariants.{Void, Shared, Merged}

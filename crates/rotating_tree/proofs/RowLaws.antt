@@ -1,10 +1,10 @@
 -- Rows of places in a circle, when a window goes on.
-use Rattle.std.proofs.Common.{◌≡◌, ◌⊎◌, inl, inr, ℕ, suc, zero, ◌+◌, ◌-◌, ◌*◌, ◌<◌, ◌≤◌, arith, sym, ap, ◌∙◌, List, [], ◌∷◌, ◌++◌, length, length-append, length-take, length-drop, refl, subst, Option, Some, None, set, take, drop, map, append_assoc, get_or, ◌^◌, add-one}
+use Rattle.std.proofs.Common.{◌≡◌, ◌⊎◌, inl, inr, ℕ, suc, zero, ◌+◌, ◌-◌, ◌*◌, ◌<◌, ◌≤◌, arith, sym, ap, ◌∙◌, List, [], ◌∷◌, ◌++◌, length, length-append, length-take, length-drop, refl, Option, Some, None, set, take, drop, map, append_assoc, ◌^◌, add-one}
 use native.Mathlib.Nat.{pow-suc}
-use Rattle.std.proofs.lemmas.List.{set-append_left, take-append-drop, drop-drop, take-take, length-set, length-map, drop-append-le, take-append-le, append-nil, drop_all, take_all, map-append, take-map, drop-map, drop-take, drop_at, take_at, map-set}
+use Rattle.std.proofs.lemmas.List.{set-append_left, take-append-drop, drop-drop, take-take, length-set, length-map, drop-append-le, take-append-le, append-nil, drop_all, map-append, drop-map, drop-take, drop_at, take_at, map-set}
 use Rattle.std.specs.Prelude.{All}
 use Rattle.record_text.specs.Shifts.{put_at}
-use Rattle.rotating_tree.specs.Circles.{slots, with_fresh, voids, row}
+use Rattle.rotating_tree.specs.Circles.{with_fresh, voids, row}
 
 pub length_voids : (V : Type 0) (k : ℕ) → length (voids {X = V} k) ≡ k
 length_voids V zero = refl

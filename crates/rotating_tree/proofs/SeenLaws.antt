@@ -1,5 +1,5 @@
 -- How a tree is seen before and after its calls.
-use Rattle.std.proofs.Common.{◌≡◌, ◌⊎◌, inl, inr, ℕ, ◌+◌, ◌-◌, ◌*◌, ◌<◌, ◌≤◌, sym, ap, ◌∙◌, List, [], ◌++◌, length, refl, subst, Option, Some, None, true, false, true≢false, drop, map}
+use Rattle.std.proofs.Common.{◌≡◌, ◌⊎◌, inl, inr, ℕ, ◌+◌, ◌*◌, sym, ap, ◌∙◌, List, [], ◌++◌, length, refl, subst, Option, Some, None, true, false, true≢false, drop}
 use Rattle.std.specs.Prelude.{IsSome}
 use Rattle.sheets.specs.Sheets.{SheetOf}
 use Rattle.sheets.specs.United.{tables_of}
@@ -10,13 +10,12 @@ use Rattle.record_text.specs.declared.kind.Kind.TheVariants.{Circle}
 use Rattle.record_text.specs.Shifts.{put_at, shifted, FitsShift}
 use Rattle.job_laws.specs.declared.meter.Counts.{Counts}
 use Rattle.job_laws.specs.Counted.{RoseBy}
-use Rattle.pin_table.specs.Covers.{PinName}
 use Rattle.tree_laws.specs.Pairs.{PairOf}
-use Rattle.tree_laws.specs.Trees.{Shape, no_shape, no_leaves, Leaves, TreeView, bare, IsDrafted, LooseOnlyIf, settled, reverted, distinct_keys}
+use Rattle.tree_laws.specs.Trees.{no_shape, Leaves, TreeView, Seen, bare, IsDrafted, LooseOnlyIf, settled, reverted, distinct_keys}
 use Rattle.rotating_tree.specs.declared.node.Node.{Node}
 use Rattle.rotating_tree.specs.declared.standing.Standing.{Standing}
 use Rattle.rotating_tree.specs.Nodes.{undrafted, taken, node_pins, node_loose, IsSettled}
-use Rattle.rotating_tree.specs.Circles.{Seen, seen_of, window, leaves_of, draft_of, changed_of, IsCircle}
+use Rattle.rotating_tree.specs.Circles.{seen_of, window, leaves_of, draft_of, changed_of, IsCircle}
 use Rattle.rotating_tree.specs.Levels.{levels}
 use Rattle.rotating_tree.proofs.NodeLaws.{settled-undrafted, taken_undrafted, undrafted_twice}
 

@@ -1,6 +1,6 @@
 -- Places in the order of a window: what a write at one of them is, and where the window begins.
-use Rattle.std.proofs.Common.{◌≡◌, ℕ, suc, zero, ◌+◌, ◌-◌, ◌*◌, ◌<◌, ◌≤◌, arith, sym, ap, ◌∙◌, List, [], ◌∷◌, ◌++◌, length, length-append, length-take, length-drop, refl, subst, Option, Some, None, set, take, drop, map, append_assoc, get_or, ◌⊎◌, inl, inr}
-use Rattle.std.proofs.lemmas.List.{set-append_left, set-append_right, take-set-le, drop-set-add, drop-set-lt, take-take, drop_at, take_at, append-nil, length-set, map-append, length-take-le, length-map, drop_more, set_at, map_more, take-append-drop}
+use Rattle.std.proofs.Common.{◌≡◌, ℕ, suc, zero, ◌+◌, ◌-◌, ◌<◌, ◌≤◌, arith, sym, ap, ◌∙◌, List, [], ◌∷◌, ◌++◌, length, length-append, length-take, length-drop, refl, Option, Some, None, set, take, drop, map, append_assoc, get_or, ◌⊎◌, inl, inr}
+use Rattle.std.proofs.lemmas.List.{set-append_left, set-append_right, take-set-le, drop-set-add, drop-set-lt, take-take, length-take-le, length-map, drop_more, set_at, map_more}
 use Rattle.record_text.specs.Shifts.{put_at}
 use Rattle.rotating_tree.specs.Circles.{IsPlaceOf, slots}
 use Rattle.rotating_tree.proofs.RowLaws.{turn_on, turn_round}

@@ -1,13 +1,8 @@
 -- Leaves put into drafts, one after the other.
-use Rattle.std.proofs.Common.{◌≡◌, ◌⊎◌, inl, inr, ℕ, ◌+◌, ◌*◌, ◌<◌, ◌≤◌, ◌||◌, arith, sym, ap, ◌∙◌, List, [], ◌++◌, refl, subst, true, false, Bool, take, drop, length}
-use Rattle.std.specs.Prelude.{All}
-use Rattle.pin_table.specs.Views.{CallerView}
-use Rattle.pin_table.specs.OwnEvents.{Met}
+use Rattle.std.proofs.Common.{ℕ, ◌+◌, ◌≤◌, arith, ◌∙◌, List, refl}
 use Rattle.tree_laws.specs.Pairs.{PairOf}
-use Rattle.rotating_tree.specs.declared.part.Part.{Part}
-use Rattle.rotating_tree.specs.declared.draft.Draft.{Draft}
-use Rattle.rotating_tree.specs.declared.node.Node.{Node, Leaf, Fork'}
-use Rattle.rotating_tree.specs.Nodes.{IsStaged, IsSettled, undrafted, taken, places, drafts, node_pins, node_loose}
+use Rattle.rotating_tree.specs.declared.node.Node.{Node}
+use Rattle.rotating_tree.specs.Nodes.{IsStaged}
 use Rattle.rotating_tree.specs.Circles.{IsStagedBy}
 
 module _ {J V M : Type 0} (digest_of : PairOf V → List ℕ) where

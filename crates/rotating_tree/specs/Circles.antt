@@ -5,9 +5,8 @@ use Rattle.sheets.specs.United.{tables_of}
 use Rattle.record_text.specs.declared.shift.Shift.{Shift}
 use Rattle.record_text.specs.declared.shift.Shift.TheVariants.{Slide, Splice}
 use Rattle.record_text.specs.Shifts.{put_at}
-use Rattle.pin_table.specs.Covers.{PinName}
 use Rattle.tree_laws.specs.Pairs.{PairOf}
-use Rattle.tree_laws.specs.Trees.{Leaves, TreeView, no_shape, IsLeaf}
+use Rattle.tree_laws.specs.Trees.{Leaves, Seen, no_shape, IsLeaf}
 use Rattle.rotating_tree.specs.declared.node.Node.{Node}
 use Rattle.rotating_tree.specs.declared.standing.Standing.{Standing}
 use Rattle.rotating_tree.specs.Nodes.{AllSome, places, taken, undrafted, size, height, drafts, node_pins, node_loose, IsSound, IsEven, IsSettled, IsStaged, IsMarked}
@@ -51,11 +50,6 @@ abbrev pub found : {X : Type 0} → List (Option X) → List X
 found [] = []
 found (None ∷ os) = found os
 found (Some x ∷ os) = x ∷ found os
-
--- A tree with its pins.
-pub record Seen (V : Type 0) : Type 0 where
-  pub tree : TreeView V
-  pub pins : List PinName
 
 module _ {J V M : Type 0} where
   -- Leaves were put into the drafts of at most so many of the first `n` places, and all else is as before.

@@ -29,7 +29,8 @@ pub struct RotatingTree<J: Job> {
 
 impl<J: Job> Model for RotatingTree<J> {
     ghost use Rattle.tree_laws.specs.Pairs.{pair_digest};
-    ghost use Rattle.rotating_tree.specs.Circles.{Seen, seen_of, IsCircle};
+    ghost use Rattle.tree_laws.specs.Trees.{Seen};
+    ghost use Rattle.rotating_tree.specs.Circles.{seen_of, IsCircle};
 
     ghost Value = { Seen J.Val };
 

@@ -1,8 +1,8 @@
-use Rattle.std.proofs.Common.{rules, arith, ◌≡◌, ◌⊎◌, inl, inr, ℕ, true, List, drop, length, ap, ◌∙◌, sym, subst}
-use Rattle.pin_table.specs.Covers.{PinName, AreGiven, Balanced}
+use Rattle.std.proofs.Common.{◌≡◌, inl, true, ap, ◌∙◌, sym, subst}
+use Rattle.pin_table.specs.Covers.{AreGiven}
 use Rattle.pin_table.proofs.Covering.{balanced-then, covered-then, all-given-later, later-then}
 use Rattle.tree_laws.specs.Pairs.{pair_digest}
-use Rattle.rotating_tree.specs.Nodes.{undrafted, taken, places, node_pins, node_loose}
+use Rattle.rotating_tree.specs.Nodes.{taken, node_pins, node_loose}
 use Rattle.rotating_tree.proofs.NodeLaws.{settled-taken}
 use Rattle.rotating_tree.proofs.circle.advance.Goals as goal
 

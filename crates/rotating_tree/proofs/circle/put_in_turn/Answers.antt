@@ -1,8 +1,8 @@
-use Rattle.std.proofs.Common.{rules, arith, ◌≡◌, ℕ, ◌<◌, ◌≤◌, Some, drop, length, ap, ◌∙◌, sym, subst}
+use Rattle.std.proofs.Common.{arith, ◌≡◌, Some, drop, length, ap, ◌∙◌, sym, subst}
 use Rattle.std.proofs.lemmas.List.{drop-set-lt}
 use Rattle.tree_laws.specs.Trees.{IsLeaf}
-use Rattle.rotating_tree.specs.Nodes.{AllSome, undrafted, taken, places, size}
-use Rattle.rotating_tree.specs.Circles.{slots, IsPlaceOf}
+use Rattle.rotating_tree.specs.Nodes.{AllSome, taken, places}
+use Rattle.rotating_tree.specs.Circles.{slots}
 use Rattle.rotating_tree.proofs.NodeLaws.{length-places, size-taken}
 use Rattle.rotating_tree.proofs.SlotLaws.{set_slots}
 use Rattle.rotating_tree.proofs.FoundLaws.{all-set}

@@ -1,14 +1,15 @@
-use Rattle.std.proofs.Common.{rules, arith, ◌≡◌, ◌⊎◌, inl, inr, ℕ, ◌+◌, ◌-◌, ◌*◌, ◌<◌, ◌≤◌, true, List, drop, length, ap, ◌∙◌, sym, subst}
+use Rattle.std.proofs.Common.{arith, ◌≡◌, inl, inr, ◌*◌, true, List, drop, length, ap, ◌∙◌, sym, subst}
 use Rattle.std.proofs.lemmas.Result.{on_ok_weaker}
 use Rattle.pin_table.specs.Covers.{PinName, AreGiven, Balanced}
 use Rattle.pin_table.proofs.Covering.{balanced-same}
 use Rattle.sheets.specs.Sheets.{SheetOf}
 use Rattle.tree_laws.specs.Pairs.{pair_digest}
 use Rattle.tree_laws.specs.Trees.{IsLeaf, IsWithin, distinct_keys}
-use Rattle.rotating_tree.specs.Nodes.{AllSome, IsSound, undrafted, taken, places, height, drafts, node_pins, node_loose}
+use Rattle.rotating_tree.specs.Nodes.{AllSome, IsSound, taken, places, height, drafts, node_pins, node_loose}
 use Rattle.rotating_tree.specs.Circles.{slots, advanced}
 use Rattle.rotating_tree.proofs.NodeLaws.{even-kept, height-kept, settled-staged, staged-marked, settled-undrafted, settled-taken, settled-drafts}
-use Rattle.rotating_tree.proofs.RejoinLaws.{rose-still, redraft-rose}
+use Rattle.tree_laws.proofs.LeafLaws.{rose-still}
+use Rattle.rotating_tree.proofs.RejoinLaws.{redraft-rose}
 use Rattle.rotating_tree.proofs.FoundLaws.{all-slots}
 use Rattle.rotating_tree.proofs.circle.redraft.Goals as goal
 
@@ -96,4 +97,4 @@ pub returns-in-Err-clause-loose : goal.returns-in-Err-clause-loose
 returns-in-Err-clause-loose g c = λ e. inl (subst (λ m. node_loose m ≡ true) (settled-taken c.args.node.now c.requires.settled) (c.stage.ensures.step.loose e))
 
 pub returns-in-Err-clause-counted : goal.returns-in-Err-clause-counted
-returns-in-Err-clause-counted g c = λ ts within behind. rose-still 0 (height c.args.node.now * length c.args.news.now) (height c.args.node.now * length c.args.news.now * distinct_keys ts) _
+returns-in-Err-clause-counted g c = λ ts within behind. rose-still (height c.args.node.now * length c.args.news.now) (height c.args.node.now * length c.args.news.now * distinct_keys ts) _

@@ -1,7 +1,7 @@
-use Rattle.std.proofs.Common.{rules, arith, ◌≡◌, ℕ, ◌++◌, ◌+◌, ◌-◌, ◌<◌, ◌≤◌, Some, [], map, take, drop, length, get_or, slice_set, ap, ◌∙◌, sym, refl, subst}
+use Rattle.std.proofs.Common.{arith, ◌≡◌, ◌++◌, ◌+◌, ◌<◌, Some, [], map, take, drop, length, get_or, slice_set, ap, ◌∙◌, sym}
 use Rattle.std.proofs.lemmas.List.{get_or_read, take_all, take-append-drop, append-nil}
 use Rattle.tree_laws.specs.Pairs.{pair_digest}
-use Rattle.rotating_tree.specs.Nodes.{taken, places, size}
+use Rattle.rotating_tree.specs.Nodes.{taken, places}
 use Rattle.rotating_tree.specs.Circles.{slots}
 use Rattle.rotating_tree.proofs.NodeLaws.{even-kept, size-kept, length-places, size-taken}
 use Rattle.rotating_tree.proofs.StageLaws.{staged-none, staged-then, staged-more}

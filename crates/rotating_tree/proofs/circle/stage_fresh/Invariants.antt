@@ -1,8 +1,8 @@
-use Rattle.std.proofs.Common.{◌≡◌, ℕ, ◌++◌, ◌+◌, ◌-◌, ◌<◌, ◌≤◌, Some, map, take, drop, length}
+use Rattle.std.proofs.Common.{◌≡◌, ℕ, ◌++◌, ◌+◌, Some, map, take, drop}
 use Rattle.std.specs.Prelude.{All}
 use Rattle.tree_laws.specs.Pairs.{pair_digest}
 use Rattle.tree_laws.specs.Trees.{IsLeaf}
-use Rattle.rotating_tree.specs.Nodes.{AllSome, IsEven, IsStaged, taken, places, size}
+use Rattle.rotating_tree.specs.Nodes.{AllSome, IsEven, taken, places, size}
 use Rattle.rotating_tree.specs.Circles.{IsStagedBy, slots}
 use Rattle.rotating_tree.proofs.circle.stage_fresh.Given as goal
 

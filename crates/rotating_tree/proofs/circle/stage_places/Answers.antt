@@ -1,4 +1,4 @@
-use Rattle.std.proofs.Common.{rules, arith, ◌≡◌, ℕ, ◌+◌, ◌-◌, ◌<◌, ◌≤◌, Some, map, take, drop, length, get_or, ap, ◌∙◌, sym, refl, subst}
+use Rattle.std.proofs.Common.{arith, ◌≡◌, ◌+◌, ◌<◌, Some, map, drop, length, get_or, ap, ◌∙◌, sym, refl}
 use Rattle.std.proofs.lemmas.List.{get_or_read, drop_all}
 use Rattle.record_text.specs.Shifts.{put_at}
 use Rattle.tree_laws.specs.Pairs.{pair_digest}

@@ -1,9 +1,9 @@
-use Rattle.std.proofs.Common.{◌≡◌, ℕ, ◌+◌, ◌-◌, ◌<◌, ◌≤◌, Some, map, take, drop, length}
+use Rattle.std.proofs.Common.{◌≡◌, ℕ, Some, map, drop}
 use Rattle.std.specs.Prelude.{All}
 use Rattle.record_text.specs.Shifts.{put_at}
 use Rattle.tree_laws.specs.Pairs.{pair_digest}
 use Rattle.tree_laws.specs.Trees.{IsLeaf}
-use Rattle.rotating_tree.specs.Nodes.{AllSome, IsEven, IsStaged, taken, places, size}
+use Rattle.rotating_tree.specs.Nodes.{AllSome, IsEven, taken, places, size}
 use Rattle.rotating_tree.specs.Circles.{IsStagedBy, slots}
 use Rattle.rotating_tree.proofs.circle.stage_places.Given as goal
 

@@ -1,4 +1,4 @@
-use Rattle.std.proofs.Common.{◌≤◌, ◌≡◌, arith, subst}
+use Rattle.std.proofs.Common.{arith, subst}
 use Rattle.std.specs.Prelude.{IfSome, option_copied}
 use Rattle.definitions.specs.Tables.{common_keys}
 use Rattle.job_laws.proofs.CountLaws.{rose_more}

@@ -1,4 +1,4 @@
-use Rattle.std.proofs.Common.{rules, arith, ◌≡◌, ℕ, ◌+◌, ◌-◌, ◌*◌, ◌^◌, ◌<◌, ◌++◌, ◌||◌, None, false, [], sym, ap, ◌∙◌, subst, add-one}
+use Rattle.std.proofs.Common.{rules, arith, ◌≡◌, ◌+◌, ◌-◌, ◌*◌, ◌^◌, ◌<◌, ◌++◌, ◌||◌, false, [], sym, ap, ◌∙◌, subst, add-one}
 use native.Mathlib.Nat.{pow-suc}
 use Rattle.tree_laws.specs.Pairs.{pair_digest}
 use Rattle.rotating_tree.specs.Nodes.{places, size, IsSound, now_of, node_pins, node_loose}

@@ -1,6 +1,6 @@
-use Rattle.std.proofs.Common.{rules, arith, ◌≡◌, ℕ, ◌+◌, ◌-◌, ◌*◌, ◌<◌, ◌≤◌, Some, slice_set, length, ◌/◌, sym, ◌∙◌, ap, ◌++◌, List, Option, set, subst}
+use Rattle.std.proofs.Common.{rules, arith, ◌≡◌, ◌+◌, ◌<◌, length, sym, ◌∙◌, ap, ◌++◌, subst}
 use Rattle.std.proofs.lemmas.List.{set-append_left, set-append_right}
-use Rattle.rotating_tree.specs.Nodes.{IsEven, IsStaged, undrafted, taken, places, size, drafts}
+use Rattle.rotating_tree.specs.Nodes.{IsStaged, taken, places, drafts}
 use Rattle.rotating_tree.proofs.NodeLaws.{staged-below, length-places, size-taken}
 use Rattle.rotating_tree.proofs.putting.+put.Goals as goal
 

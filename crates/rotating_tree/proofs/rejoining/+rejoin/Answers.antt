@@ -1,5 +1,5 @@
-use Rattle.std.proofs.Common.{rules, arith, ◌≡◌, ◌⊎◌, inl, inr, ℕ, List, [], Option, ◌++◌, ◌+◌, ◌*◌, ◌<◌, ◌||◌, Bool, true, false, true≢false, sym, ap, ◌∙◌, subst, append-nil}
-use Rattle.std.specs.Prelude.{IfSome, option_copied}
+use Rattle.std.proofs.Common.{rules, ◌≡◌, ◌⊎◌, List, [], Option, ◌++◌, ◌+◌, ◌*◌, true, false, true≢false, sym, ap, ◌∙◌, subst, append-nil}
+use Rattle.std.specs.Prelude.{IfSome}
 use Rattle.sheets.specs.Sheets.{SheetOf}
 use Rattle.job_laws.specs.Counted.{RoseBy}
 use Rattle.pin_table.specs.Covers.{PinName, AreGiven, Balanced}
@@ -7,12 +7,13 @@ use Rattle.pin_table.specs.OwnEvents.{Met}
 use Rattle.pin_table.proofs.Covering.{balanced-same, got-same, later-same}
 use Rattle.tree_laws.specs.Pairs.{pair_digest}
 use Rattle.tree_laws.specs.Trees.{IsLeaf, IsWithin, distinct_keys}
-use Rattle.rotating_tree.specs.Nodes.{AllSome, IsEven, IsSound, IsSettled, IsStaged, IsMarked, IsJoined, undrafted, taken, places, height, drafts, is_due, next_by, part_pins, draft_pins, part_loose, node_pins, node_loose}
+use Rattle.rotating_tree.specs.Nodes.{AllSome, IsEven, IsSound, IsSettled, IsStaged, undrafted, taken, places, height, drafts, is_due, next_by, part_pins, draft_pins, part_loose, node_pins, node_loose}
 use Rattle.rotating_tree.proofs.NodeLaws.{at-fork, staged-marked, staged-sound, staged-due}
 use Rattle.rotating_tree.proofs.FoundLaws.{all-left, all-right, leaf-nodes, within-nodes}
 use Rattle.rotating_tree.proofs.LooseLaws.{staged-fork-pins}
 use Rattle.rotating_tree.proofs.PinLaws.{fork-balanced, fork-given, between-balanced, between-given}
-use Rattle.rotating_tree.proofs.RejoinLaws.{rose-still, fork-rose, fork-loose, due-loose, due-stays-loose}
+use Rattle.tree_laws.proofs.LeafLaws.{rose-still}
+use Rattle.rotating_tree.proofs.RejoinLaws.{fork-rose, fork-loose, due-loose, due-stays-loose}
 use Rattle.rotating_tree.proofs.rejoining.+rejoin.Goals as goal
 
 -- The first half was not made.
@@ -40,7 +41,7 @@ fork-returns-in-Err-clause-counted g t c = λ ts wl wr.
     let keys = distinct_keys ts in
     let x0 = g.J.Meter.Meter.counts c.args.m.now in
     let x1 = g.J.Meter.Meter.counts c.rejoin.new.m in
-    fork-rose (height l) (height r) (drafts l) (drafts r) keys x0 x1 x1 x1 c.requires.even.2 c.requires.due (c.rejoin.ensures.counted ts wl) (rose-still 0 (height r * drafts r) (height r * drafts r * keys) x1) (rose-still 0 1 keys x1)
+    fork-rose (height l) (height r) (drafts l) (drafts r) keys x0 x1 x1 x1 c.requires.even.2 c.requires.due (c.rejoin.ensures.counted ts wl) (rose-still (height r * drafts r) (height r * drafts r * keys) x1) (rose-still 1 keys x1)
 
 -- The second half was not made.
 pub fork-returns-in-Err-rejoin-clause-balanced : goal.fork-returns-in-Err-rejoin-clause-balanced
@@ -67,7 +68,7 @@ fork-returns-in-Err-rejoin-clause-counted g t c = λ ts wl wr.
     let r = c.args.right.now in
     let keys = distinct_keys ts in
     let x2 = g.J.Meter.Meter.counts c.rejoin-2.new.m in
-    fork-rose (height l) (height r) (drafts l) (drafts r) keys (g.J.Meter.Meter.counts c.args.m.now) (g.J.Meter.Meter.counts c.rejoin.new.m) x2 x2 c.requires.even.2 c.requires.due (c.rejoin.ensures.counted ts wl) (c.rejoin-2.ensures.counted ts wr) (rose-still 0 1 keys x2)
+    fork-rose (height l) (height r) (drafts l) (drafts r) keys (g.J.Meter.Meter.counts c.args.m.now) (g.J.Meter.Meter.counts c.rejoin.new.m) x2 x2 c.requires.even.2 c.requires.due (c.rejoin.ensures.counted ts wl) (c.rejoin-2.ensures.counted ts wr) (rose-still 1 keys x2)
 
 pub fork-join_halves-requires-clause-left : goal.fork-join_halves-requires-clause-left
 fork-join_halves-requires-clause-left g t c =

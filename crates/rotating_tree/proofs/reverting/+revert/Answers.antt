@@ -1,10 +1,11 @@
-use Rattle.std.proofs.Common.{rules, ◌≡◌, ◌++◌, [], sym, ap, ◌∙◌, subst}
-use Rattle.pin_table.specs.Covers.{PinName, Covered, Balanced}
+use Rattle.std.proofs.Common.{rules, ◌++◌, sym, ◌∙◌, subst}
+use Rattle.pin_table.specs.Covers.{Covered, Balanced}
 use Rattle.pin_table.proofs.Covering.{covered-left, covered-right}
 use Rattle.tree_laws.specs.Pairs.{pair_digest}
 use Rattle.rotating_tree.specs.Nodes.{IsMarked, part_pins, draft_pins, node_pins}
 use Rattle.rotating_tree.proofs.NodeLaws.{at-fork, stays-undrafted, marked-below}
-use Rattle.rotating_tree.proofs.PinLaws.{between-balanced, between-covered, balanced-three, drop-balanced, drop-alone, dropped-rest}
+use Rattle.tree_laws.proofs.TradeLaws.{covered-rest}
+use Rattle.rotating_tree.proofs.PinLaws.{between-balanced, between-covered, balanced-three, drop-balanced, drop-alone}
 use Rattle.rotating_tree.proofs.reverting.+revert.Goals as goal
 
 pub revert-returns-then-stays-clause-undrafted : goal.revert-returns-then-stays-clause-undrafted
@@ -62,7 +63,7 @@ revert_fork-revert-requires-2 g t c κs within =
     let d = pair_digest g.J.Job.encoded in
     let u = c.args.caller.now in
     let v = c.revert.new.caller in
-    let rest = dropped-rest d u v c.args.left.now c.revert.new.node (node_pins d c.args.right.now ++ draft_pins d c.args.draft.now) c.revert.ensures.undrafted c.revert.ensures.balanced c.requires.covered in
+    let rest = covered-rest u v (node_pins d c.args.left.now) (node_pins d c.args.right.now ++ draft_pins d c.args.draft.now) (node_pins d c.revert.new.node) c.requires.covered c.revert.ensures.balanced in
     let covered = covered-left v (node_pins d c.args.right.now) (draft_pins d c.args.draft.now) rest in
     (search rules, (search rules, (search rules, (search rules, (search rules, (c.revert.ensures.balanced.later.locks ∙ c.requires.of, (covered, c.requires.marked.1)))))))
 
@@ -71,8 +72,8 @@ revert_fork-drop_draft-requires-clause-covered g t c =
     let d = pair_digest g.J.Job.encoded in
     let u = c.args.caller.now in
     let v = c.revert.new.caller in
-    let rest = dropped-rest d u v c.args.left.now c.revert.new.node (node_pins d c.args.right.now ++ draft_pins d c.args.draft.now) c.revert.ensures.undrafted c.revert.ensures.balanced c.requires.covered in
-    dropped-rest d v c.revert-2.new.caller c.args.right.now c.revert-2.new.node (draft_pins d c.args.draft.now) c.revert-2.ensures.undrafted c.revert-2.ensures.balanced rest
+    let rest = covered-rest u v (node_pins d c.args.left.now) (node_pins d c.args.right.now ++ draft_pins d c.args.draft.now) (node_pins d c.revert.new.node) c.requires.covered c.revert.ensures.balanced in
+    covered-rest v c.revert-2.new.caller (node_pins d c.args.right.now) (draft_pins d c.args.draft.now) (node_pins d c.revert-2.new.node) rest c.revert-2.ensures.balanced
 
 pub revert_fork-returns-clause-balanced : goal.revert_fork-returns-clause-balanced
 revert_fork-returns-clause-balanced g t c =

@@ -1,10 +1,11 @@
-use Rattle.std.proofs.Common.{rules, ◌≡◌, ◌++◌, [], sym, ap, ◌∙◌, subst}
-use Rattle.pin_table.specs.Covers.{PinName, Covered, Balanced}
-use Rattle.pin_table.proofs.Covering.{covered-left, covered-right}
+use Rattle.std.proofs.Common.{rules, ◌++◌, sym, ◌∙◌, subst}
+use Rattle.pin_table.specs.Covers.{Covered, Balanced}
+use Rattle.pin_table.proofs.Covering.{covered-left}
 use Rattle.tree_laws.specs.Pairs.{pair_digest}
 use Rattle.rotating_tree.specs.Nodes.{IsMarked, part_pins, draft_pins, node_pins}
 use Rattle.rotating_tree.proofs.NodeLaws.{at-fork, stays-taken, marked-below}
-use Rattle.rotating_tree.proofs.PinLaws.{balanced-three, settled-rest}
+use Rattle.tree_laws.proofs.TradeLaws.{covered-rest}
+use Rattle.rotating_tree.proofs.PinLaws.{balanced-three}
 use Rattle.rotating_tree.proofs.settling.+settle.Goals as goal
 
 pub settle-returns-then-stays-clause-taken : goal.settle-returns-then-stays-clause-taken
@@ -52,7 +53,7 @@ settle_fork-settle-requires-2 g t c κs within =
     let own = part_pins d c.args.now.now ++ draft_pins d c.args.draft.now in
     let u = c.args.caller.now in
     let v = c.settle.new.caller in
-    let rest = settled-rest d u v c.args.left.now c.settle.new.node (node_pins d c.args.right.now ++ own) c.settle.ensures.taken c.settle.ensures.balanced c.requires.covered in
+    let rest = covered-rest u v (node_pins d c.args.left.now) (node_pins d c.args.right.now ++ own) (node_pins d c.settle.new.node) c.requires.covered c.settle.ensures.balanced in
     let covered = covered-left v (node_pins d c.args.right.now) own rest in
     (search rules, (search rules, (search rules, (search rules, (search rules, (c.settle.ensures.balanced.later.locks ∙ c.requires.of, (covered, c.requires.marked.1)))))))
 
@@ -62,8 +63,8 @@ settle_fork-turn-requires-clause-covered g t c =
     let own = part_pins d c.args.now.now ++ draft_pins d c.args.draft.now in
     let u = c.args.caller.now in
     let v = c.settle.new.caller in
-    let rest = settled-rest d u v c.args.left.now c.settle.new.node (node_pins d c.args.right.now ++ own) c.settle.ensures.taken c.settle.ensures.balanced c.requires.covered in
-    settled-rest d v c.settle-2.new.caller c.args.right.now c.settle-2.new.node own c.settle-2.ensures.taken c.settle-2.ensures.balanced rest
+    let rest = covered-rest u v (node_pins d c.args.left.now) (node_pins d c.args.right.now ++ own) (node_pins d c.settle.new.node) c.requires.covered c.settle.ensures.balanced in
+    covered-rest v c.settle-2.new.caller (node_pins d c.args.right.now) own (node_pins d c.settle-2.new.node) rest c.settle-2.ensures.balanced
 
 pub settle_fork-returns-clause-balanced : goal.settle_fork-returns-clause-balanced
 settle_fork-returns-clause-balanced g t c =

@@ -1,4 +1,4 @@
-use Rattle.std.proofs.Common.{◌≡◌, ◌++◌, [], sym, subst}
+use Rattle.std.proofs.Common.{◌++◌, [], sym, subst}
 use Rattle.pin_table.specs.Covers.{Covered, Balanced}
 use Rattle.pin_table.proofs.Covering.{covered-left}
 use Rattle.tree_laws.specs.Pairs.{pair_digest}

@@ -1,22 +1,20 @@
-use Rattle.std.proofs.Common.{rules, arith, ◌≡◌, ◌⊎◌, inl, inr, ℕ, ◌+◌, ◌-◌, ◌*◌, ◌^◌, ◌<◌, ◌≤◌, Some, None, true, List, Option, length, drop, map, refl, sym, ap, ◌∙◌, subst}
-use Rattle.std.specs.Prelude.{All}
+use Rattle.std.proofs.Common.{arith, ◌≡◌, ℕ, ◌+◌, ◌-◌, Some, None, List, Option, length, refl, sym, ap, ◌∙◌, subst}
 use Rattle.record_text.specs.declared.kind.Kind.TheVariants.{Circle}
 use Rattle.record_text.specs.declared.shift.Shift.{Shift}
 use Rattle.record_text.specs.declared.shift.Shift.TheVariants.{Slide}
 use Rattle.record_text.specs.Shifts.{FitsShift, shifted}
 use Rattle.sheets.specs.United.{tables_of}
-use Rattle.job_laws.specs.Counted.{RoseBy}
 use Rattle.pin_table.specs.Covers.{PinName, Covered, Balanced}
 use Rattle.pin_table.proofs.Covering.{covered-then}
 use Rattle.tree_laws.specs.Pairs.{pair_digest}
 use Rattle.pin_table.specs.OwnEvents.{Met}
-use Rattle.tree_laws.specs.Trees.{IsLeaf, IsDrafted, no_shape, distinct_keys}
+use Rattle.tree_laws.specs.Trees.{Seen, IsLeaf, IsDrafted, no_shape, distinct_keys}
 use Rattle.rotating_tree.specs.declared.standing.Standing.{Standing}
-use Rattle.rotating_tree.specs.Nodes.{AllSome, taken, undrafted, height, node_pins, node_loose}
+use Rattle.rotating_tree.specs.Nodes.{AllSome, undrafted, height, node_pins}
 use Rattle.rotating_tree.specs.Nodes.{places as places_of}
-use Rattle.rotating_tree.specs.Circles.{Seen, IsCircle, IsAdvanced, seen_of, draft_of, window}
+use Rattle.rotating_tree.specs.Circles.{IsCircle, IsAdvanced, seen_of, draft_of, window}
 use Rattle.rotating_tree.proofs.NodeLaws.{settled-undrafted}
-use Rattle.rotating_tree.proofs.CircleLaws.{no-draft, circle-sound, circle-leaves, circle-advances, circle-few, tables-after, tables-ahead, within-ahead, within-behind}
+use Rattle.rotating_tree.proofs.CircleLaws.{no-draft, circle-sound, circle-leaves, circle-advances, circle-few, tables-after, within-ahead, within-behind}
 use Rattle.rotating_tree.proofs.LevelLaws.{levels-rose}
 use Rattle.rotating_tree.proofs.SeenLaws.{seen-fits, seen-pins, seen-drafted, seen-loose, seen-counted}
 use Rattle.rotating_tree.proofs.tree.RotatingTreeTree.advance.Goals as goal

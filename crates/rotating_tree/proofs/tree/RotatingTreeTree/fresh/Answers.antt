@@ -1,4 +1,4 @@
-use Rattle.std.proofs.Common.{rules, arith, ◌≡◌, ◌<◌, None, refl, sym, ap, ◌∙◌, subst}
+use Rattle.std.proofs.Common.{refl}
 use Rattle.tree_laws.specs.Pairs.{pair_digest}
 use Rattle.rotating_tree.specs.declared.standing.Standing.{Standing}
 use Rattle.rotating_tree.proofs.CircleLaws.{circle-starts, window-starts}

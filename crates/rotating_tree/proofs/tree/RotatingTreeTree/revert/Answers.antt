@@ -1,11 +1,11 @@
-use Rattle.std.proofs.Common.{rules, arith, ◌≡◌, ◌≤◌, ◌-◌, length, Some, None, List, Option, sym, ap, ◌∙◌, subst}
+use Rattle.std.proofs.Common.{◌≤◌, ◌-◌, length, None, List, Option, sym, subst}
 use Rattle.pin_table.specs.Covers.{PinName, Covered, Balanced, AreGiven}
 use Rattle.pin_table.proofs.Covering.{covered-then, all-given-later, balanced-same}
 use Rattle.tree_laws.specs.Pairs.{pair_digest}
-use Rattle.tree_laws.specs.Trees.{reverted}
+use Rattle.tree_laws.specs.Trees.{Seen}
 use Rattle.rotating_tree.specs.declared.standing.Standing.{Standing}
-use Rattle.rotating_tree.specs.Nodes.{undrafted, node_pins}
-use Rattle.rotating_tree.specs.Circles.{Seen, IsCircle, seen_of}
+use Rattle.rotating_tree.specs.Nodes.{node_pins}
+use Rattle.rotating_tree.specs.Circles.{IsCircle}
 use Rattle.rotating_tree.proofs.PinLaws.{given-undrafted}
 use Rattle.rotating_tree.proofs.CircleLaws.{circle-drops, circle-marked, circle-few}
 use Rattle.rotating_tree.proofs.SeenLaws.{seen-pins, seen-reverted, seen-plain}

@@ -1,9 +1,7 @@
-use Rattle.std.proofs.Common.{◌≡◌, Option, sym, ap, subst}
+use Rattle.std.proofs.Common.{Option, sym, subst}
 use Rattle.sheets.specs.Sheets.{SheetOf}
-use Rattle.sheets.specs.United.{tables_of}
-use Rattle.tree_laws.specs.Trees.{IsMergeOver}
-use Rattle.rotating_tree.specs.Nodes.{undrafted, now_of}
-use Rattle.rotating_tree.specs.Circles.{Seen, window}
+use Rattle.tree_laws.specs.Trees.{Seen, IsMergeOver}
+use Rattle.rotating_tree.specs.Nodes.{now_of}
 use Rattle.rotating_tree.proofs.CircleLaws.{circle-root}
 use Rattle.rotating_tree.proofs.tree.RotatingTreeTree.root.Goals as goal
 

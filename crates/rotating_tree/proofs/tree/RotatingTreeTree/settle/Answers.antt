@@ -1,9 +1,9 @@
-use Rattle.std.proofs.Common.{rules, arith, ◌≡◌, Some, None, List, Option, sym, ap, ◌∙◌, subst}
+use Rattle.std.proofs.Common.{None, List, Option, sym, subst}
 use Rattle.pin_table.specs.Covers.{PinName, Covered, Balanced, AreGiven}
 use Rattle.pin_table.proofs.Covering.{covered-then, all-given-later}
 use Rattle.tree_laws.specs.Pairs.{pair_digest}
 use Rattle.rotating_tree.specs.declared.standing.Standing.{Standing}
-use Rattle.rotating_tree.specs.Nodes.{taken, node_pins}
+use Rattle.rotating_tree.specs.Nodes.{node_pins}
 use Rattle.rotating_tree.specs.Circles.{IsCircle}
 use Rattle.rotating_tree.proofs.PinLaws.{given-taken}
 use Rattle.rotating_tree.proofs.CircleLaws.{circle-settles, circle-marked, circle-few}
