@@ -2,7 +2,7 @@
 use Rattle.std.proofs.Common.{◌≡◌, ℕ, arith, sym, List, [], ◌++◌, subst, append_assoc, append-nil}
 use Rattle.pin_table.specs.Views.{CallerView}
 use Rattle.pin_table.specs.Covers.{PinName, AreGiven, Covered, Balanced, Got, IsLater, count}
-use Rattle.pin_table.proofs.Covering.{count-append, balanced-then, balanced-beside, balanced-before, balanced-from, balanced-order, got-balanced, all-given-later, given-append, given-left, given-right, covered-then}
+use Rattle.pin_table.proofs.Covering.{count-append, balanced-then, balanced-beside, balanced-before, balanced-from, balanced-order, got-balanced, all-given-later, given-append, given-left, given-right}
 use Rattle.tree_laws.specs.Pairs.{PairOf}
 use Rattle.tree_laws.proofs.TradeLaws.{balanced-both}
 use Rattle.rotating_tree.specs.declared.part.Part.{Part}
@@ -10,14 +10,6 @@ use Rattle.rotating_tree.specs.declared.draft.Draft.{Draft}
 use Rattle.rotating_tree.specs.declared.draft.Draft.TheVariants.{Same, Due, New}
 use Rattle.rotating_tree.specs.declared.node.Node.{Node, Leaf, Fork'}
 use Rattle.rotating_tree.specs.Nodes.{part_pins, draft_pins, node_pins, next_by, taken, undrafted}
-
--- A caller whose pins of one kind became others has what it had beside them.
-module _ (v w : CallerView) (ps qs : List PinName) (b : Balanced v ps w qs) where
-  pub beside-covered : (os : List PinName) → Covered v (ps ++ os) → AreGiven w qs → Covered w (qs ++ os)
-  beside-covered os c given = covered-then v w (ps ++ os) (qs ++ os) c (balanced-before v w os ps qs b) (given-append w qs os given (all-given-later v w os b.later (given-right v ps os c.given)))
-
-  pub after-covered : (os : List PinName) → Covered v (os ++ ps) → AreGiven w qs → Covered w (os ++ qs)
-  after-covered os c given = covered-then v w (os ++ ps) (os ++ qs) c (balanced-beside v w os ps qs b) (given-append w os qs (all-given-later v w os b.later (given-left v os ps c.given)) given)
 
 -- Three steps, each with its own pins.
 pub balanced-three : (u v w x : CallerView) (hs bs cs ds es fs : List PinName) → Balanced u hs v ds → Balanced v bs w es → Balanced w cs x fs → Balanced u (hs ++ (bs ++ cs)) x (ds ++ (es ++ fs))
