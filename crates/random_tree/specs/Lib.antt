@@ -1,0 +1,5 @@
+pub mod Groups
+pub mod Inputs
+pub mod Payments
+pub mod Levels
+pub mod Steps

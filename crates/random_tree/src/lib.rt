@@ -1,0 +1,25 @@
+//! The tree of a document's chunks: an edit costs the merges over what it changed, wherever that stands.
+//!
+//! [`RandomTree`] is a `Tree` of `tree_laws`. Level by level, members are taken into groups that end at a member whose digest
+//! begins with a byte of 128 or more, or at the eighth; so groups away from an edit are those of before, and are kept without
+//! a look. An advance over m leaves makes at most m - 1 merges, and where the memo lost nothing, only those whose pair no merge
+//! of the tree had. Each merge stays pinned while the tree has it. Nothing rests on how digests fall but how long groups are.
+#![tactic(auto)]
+
+mod boundary;
+mod draft;
+mod drafting;
+mod filling;
+mod group;
+mod growing;
+mod level;
+mod raising;
+mod regrouping;
+mod reverting;
+mod root;
+mod settling;
+mod sharing;
+mod splicing;
+mod tree;
+
+pub use tree::RandomTree;
