@@ -1,0 +1,12 @@
+pub mod Rows
+pub mod InPlace
+pub mod NewTexts
+pub mod Inputs
+pub mod Sweeps
+pub mod LaneTasks
+pub mod PartTasks
+pub mod Engines
+pub mod Runs
+pub mod Handing
+pub mod Finishing
+pub mod Phases
