@@ -1,0 +1,18 @@
+//! Trees through what the trait says of them, one desk for all kinds. There are tests alone, above the trees, so that no
+//! tree is proved a second time for its tests.
+#![tactic(auto)]
+
+#[cfg(test)]
+mod circle_tests;
+#[cfg(test)]
+mod desk;
+#[cfg(test)]
+mod growing_tests;
+#[cfg(test)]
+mod leaves;
+#[cfg(test)]
+mod running;
+#[cfg(test)]
+mod steps;
+#[cfg(test)]
+mod window;

@@ -1,0 +1,161 @@
+//! What is done at a desk, one step after another, and what is then to be seen.
+use crate::desk::Desk;
+use job_laws::Job;
+use sheets::Sheet;
+use std::alloc::{AllocError, Global};
+use std::sync::Wait;
+use tree_laws::Tree;
+
+/// What is done with the leaves of a step.
+#[derive(Clone, Copy, PartialEq, Eq)]
+enum Deed {
+    /// A run that takes them.
+    Runs,
+    /// A run whose draft is dropped.
+    Tries,
+    /// A run that is made once more where memory runs out.
+    Insists,
+    /// A run of another tree over the same memo.
+    AnotherRuns,
+    /// No run, but the work ahead of it.
+    WorksAhead,
+}
+
+/// A step: so many of the oldest leaves go, and leaves of these records come, those of the changed places first. It is to
+/// make so many merges, where its window can give this, and the root is then to have these lines.
+#[derive(Clone, Copy)]
+pub(crate) struct Step<'a> {
+    deed: Deed,
+    gone: usize,
+    changed: &'a [usize],
+    records: &'a [&'a [u8]],
+    merges: Option<u64>,
+    lines: &'a [u8],
+}
+
+/// A run.
+pub(crate) fn runs<'a>(
+    gone: usize,
+    changed: &'a [usize],
+    records: &'a [&'a [u8]],
+    merges: u64,
+    lines: &'a [u8],
+) -> Step<'a> {
+    Step {
+        deed: Deed::Runs,
+        gone,
+        changed,
+        records,
+        merges: Some(merges),
+        lines,
+    }
+}
+
+/// A run whose draft is dropped.
+pub(crate) fn tries<'a>(
+    gone: usize,
+    changed: &'a [usize],
+    records: &'a [&'a [u8]],
+    merges: u64,
+    lines: &'a [u8],
+) -> Step<'a> {
+    Step {
+        deed: Deed::Tries,
+        ..runs(gone, changed, records, merges, lines)
+    }
+}
+
+/// A run that is made once more where memory runs out.
+pub(crate) fn insists<'a>(
+    gone: usize,
+    changed: &'a [usize],
+    records: &'a [&'a [u8]],
+    lines: &'a [u8],
+) -> Step<'a> {
+    Step {
+        deed: Deed::Insists,
+        ..runs(gone, changed, records, 0, lines)
+    }
+}
+
+/// A run of another tree, which lets the root of the desk's as it was.
+pub(crate) fn another_runs<'a>(records: &'a [&'a [u8]], merges: u64, lines: &'a [u8]) -> Step<'a> {
+    Step {
+        deed: Deed::AnotherRuns,
+        ..runs(0, &[], records, merges, lines)
+    }
+}
+
+/// The work ahead, which makes no merge in a tree that has none.
+pub(crate) fn works_ahead<'a>(lines: &'a [u8]) -> Step<'a> {
+    Step {
+        deed: Deed::WorksAhead,
+        ..runs(0, &[], &[], 0, lines)
+    }
+}
+
+/// What a window cannot give.
+pub(crate) fn refuses<'a>(
+    gone: usize,
+    changed: &'a [usize],
+    records: &'a [&'a [u8]],
+    lines: &'a [u8],
+) -> Step<'a> {
+    Step {
+        merges: None,
+        ..runs(gone, changed, records, 0, lines)
+    }
+}
+
+impl<J: Job, T: Tree<J>> Desk<J, T> {
+    /// How many of the steps went as they are to before one that did not.
+    pub(crate) fn plays<W: Wait>(
+        &mut self,
+        alloc: Global,
+        rt: &W,
+        steps: &[Step],
+    ) -> Result<usize, AllocError> {
+        'steps: for i in 0..steps.len() {
+            if !self.plays_one(alloc, rt, &steps[i])? {
+                return Ok(i);
+            }
+        }
+        Ok(steps.len())
+    }
+
+    // Whether a step went as it is to.
+    fn plays_one<W: Wait>(
+        &mut self,
+        alloc: Global,
+        rt: &W,
+        step: &Step,
+    ) -> Result<bool, AllocError> {
+        let news = self.leaves(alloc, step.records)?;
+        let before = self.merges();
+        let went = self.does(alloc, rt, step, news.as_slice())?;
+        let made = self.merges().saturating_sub(before);
+        let as_counted = match step.merges {
+            Some(merges) => went && (merges == made || step.deed == Deed::Insists),
+            None => !went && made == 0,
+        };
+        Ok(as_counted && self.shows(alloc, step.lines)?)
+    }
+
+    // Does what the step says with its leaves; whether the window can give it.
+    fn does<W: Wait>(
+        &mut self,
+        alloc: Global,
+        rt: &W,
+        step: &Step,
+        news: &[Sheet<J>],
+    ) -> Result<bool, AllocError> {
+        let shift = self.slide(alloc, step.gone, step.changed, news.len())?;
+        match step.deed {
+            Deed::Runs => self.runs(alloc, rt, &shift, news),
+            Deed::Tries => self.tries(alloc, rt, &shift, news),
+            Deed::Insists => self.insists(alloc, rt, &shift, news),
+            Deed::AnotherRuns => self.another_runs(alloc, rt, &shift, news),
+            Deed::WorksAhead => self.works_ahead(alloc, rt),
+        }
+    }
+}
