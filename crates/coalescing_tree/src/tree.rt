@@ -54,7 +54,7 @@ impl<J: Job> Tree<J> for CoalescingTree<J> {
 
     ghost most = { λ t. length t.tree.leaves.tables - 1 };
 
-    ghost bound = { λ t shift. fresh_of shift };
+    ghost bound = { λ places shape count shift. fresh_of shift };
 
     ghost tight = { λ t shift news. fresh_of shift };
 

@@ -56,7 +56,7 @@ impl<J: Job> Tree<J> for FoldingTree<J> {
 
     ghost most = { λ t. length t.tree.leaves.tables - 1 };
 
-    ghost bound = { λ t shift. merges_of t.tree.leaves.shape shift };
+    ghost bound = { λ places shape count shift. merges_of shape shift };
 
     ghost tight = { λ t shift news. merges_of t.tree.leaves.shape shift };
 

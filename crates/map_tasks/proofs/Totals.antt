@@ -187,7 +187,7 @@ module _ (input : InputView) (old new : List TextView) (brings : BringsText inpu
 -- Final notes.
 
 -- Calm texts have no notes.
-quiet-none : (t : List (List ℕ)) (es : List TextView) → All IsQuiet es → (came_of t es ≡ 0) × (gone_of t es ≡ 0)
+pub quiet-none : (t : List (List ℕ)) (es : List TextView) → All IsQuiet es → (came_of t es ≡ 0) × (gone_of t es ≡ 0)
 quiet-none t [] quiet = (refl, refl)
 quiet-none t (e ∷ es) quiet =
     let a = sum_by-cons (of_text t (λ x. x.came)) e es in

@@ -53,7 +53,7 @@ impl<J: Job> Tree<J> for RandomTree<J> {
 
     ghost most = { λ t. length t.tree.leaves.tables - 1 };
 
-    ghost bound = { λ t shift. count_after shift (length t.tree.leaves.tables) - 1 };
+    ghost bound = { λ places shape count shift. count_after shift count - 1 };
 
     ghost tight = { λ t shift news. length (fresh_inputs J.encoded J.joined t.tree.setting t.tree.leaves.tables (shifted shift news t.tree.leaves.tables)) };
 

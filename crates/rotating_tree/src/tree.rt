@@ -56,7 +56,7 @@ impl<J: Swaps> Tree<J> for RotatingTree<J> {
 
     ghost most = { λ t. length t.tree.leaves.tables - 1 };
 
-    ghost bound = { λ t shift. changed_of shift * levels t.tree.places };
+    ghost bound = { λ places shape count shift. changed_of shift * levels places };
 
     ghost tight = { λ t shift news. changed_of shift * levels t.tree.places };
 

@@ -2,6 +2,7 @@
 ghost use Rattle.std.specs.Prelude.{◌≡◌, ◌<◌, ◌≤◌, false, length, map, All, IsTrue, IsSome, OnOk, is_err, option_map, slice_index_or};
 ghost use Rattle.collector.specs.Collectors.{horizon_of};
 ghost use Rattle.job_laws.specs.Meanings.{meaning_of};
+ghost use Rattle.tree_laws.specs.Trees.{bound_of};
 ghost use Rattle.run_engine.specs.Inputs.{texts_of};
 ghost use Rattle.run_engine.specs.InPlace.{EachPair};
 ghost use Rattle.run_engine.specs.Handing.{HoldEach};
@@ -57,7 +58,7 @@ where
     requires hands { (0 < hands) × (hands ≤ 16) }
     ensures tried { EachPair (λ p s t. IsTriedPart T.view T.pins s.tree s.caller t.tree t.caller) parts.old.items parts.new.items }
     ensures ok { OnOk result (EachPair (λ p s t. IsShiftedPart T.view (meaning_of J.Job worker.now.job.now) (length parts.old.items) T.shaped worker.now.shift.now (texts_of fresh.now.items) p s.tree t.tree) parts.old.items parts.new.items) }
-    ensures counted { PartsCounted T.view J.Meter.counts (meaning_of J.Job worker.now.job.now) (length parts.old.items) T.bound T.tight worker.now.shift.now (texts_of fresh.now.items) parts.old.items parts.new.items meters.old.items meters.new.items }
+    ensures counted { PartsCounted T.view J.Meter.counts (meaning_of J.Job worker.now.job.now) (length parts.old.items) (bound_of T.view T.bound) T.tight worker.now.shift.now (texts_of fresh.now.items) parts.old.items parts.new.items meters.old.items meters.new.items }
     ensures sweep { IsSome sweep.new × IsSwept (horizon_of (swept_by (option_map (λ s. s.collector) sweep.old)).keep worker.now.run) (swept_by (option_map (λ s. s.collector) sweep.old)) (swept_by (option_map (λ s. s.collector) sweep.new)) (is_err result) }
 {
     match hand_sheets(lanes, fresh, parts) {
@@ -86,7 +87,7 @@ where
     requires meters { length parts.old.items ≤ length meters.old.items }
     requires sweep { IsSome sweep.old × ((swept_by (option_map (λ s. s.collector) sweep.old)).caller.locks ≡ worker.now.memo.now.locks) }
     requires hands { (0 < hands) × (hands ≤ 16) }
-    ensures worked { EachPair (λ p s t. (d e : J.Meter) → IsAdvancedPart T.view T.pins T.bound T.tight T.shaped worker.now.shift.now s.fresh.items s.tree s.caller t.tree t.caller (J.Meter.counts (slice_index_or meters.old.items p d)) (J.Meter.counts (slice_index_or meters.new.items p e)) (is_err result)) parts.old.items parts.new.items }
+    ensures worked { EachPair (λ p s t. (d e : J.Meter) → IsAdvancedPart T.view T.pins (bound_of T.view T.bound) T.tight T.shaped worker.now.shift.now s.fresh.items s.tree s.caller t.tree t.caller (J.Meter.counts (slice_index_or meters.old.items p d)) (J.Meter.counts (slice_index_or meters.new.items p e)) (is_err result)) parts.old.items parts.new.items }
     ensures others { OthersStay (length parts.old.items) meters.old.items meters.new.items }
     ensures sweep { IsSome sweep.new × IsSwept (horizon_of (swept_by (option_map (λ s. s.collector) sweep.old)).keep worker.now.run) (swept_by (option_map (λ s. s.collector) sweep.old)) (swept_by (option_map (λ s. s.collector) sweep.new)) (is_err result) }
 {

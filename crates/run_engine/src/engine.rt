@@ -1,13 +1,10 @@
 //! The engine: what stands from run to run, and one run.
 ghost use Rattle.std.specs.Prelude.{◌≡◌, ℕ, ◌+◌, ◌<◌, ◌≤◌, ◌^◌, All, IfOk, OnOk, OnErr, option_copied};
-ghost use Rattle.collector.specs.Collectors.{horizon_of};
 ghost use Rattle.job_laws.specs.Meanings.{AllAccepted, meaning_of};
-ghost use Rattle.job_laws.specs.Rows.{RowRose};
 ghost use Rattle.run_settings.specs.Settings.{AreWithin};
 ghost use Rattle.window_manager.specs.Since.{IsSince};
 ghost use Rattle.run_engine.specs.Engines.{IsAnswer, IsNewEngine};
-ghost use Rattle.run_engine.specs.Runs.{IsRun, IsNoRun, IsSameEngine, IsLaterEngine, LanesWorked, PartsWorked};
-ghost use Rattle.run_engine.specs.Sweeps.{SweptAll, SweptSome};
+ghost use Rattle.run_engine.specs.Runs.{IsRun, IsNoRun, RunWorked};
 
 use crate::dealing::LANES;
 use crate::finishing::{finish, undo};
@@ -135,17 +132,11 @@ impl<J: Job, T: Tree<J>> Engine<J, T> {
         requires accepted { All (AllAccepted (meaning_of J.Job self.old.job)) window.now.window.leaves }
         requires since { IsSince self.old.first self.old.leaves window.now }
         requires runs { self.old.runs < 2 ^ 63 }
-        ensures ok { OnOk result (IsRun window.now self.old self.new) }
+        ensures ok { OnOk result (IsRun T.view T.shaped window.now self.old self.new) }
         ensures err { OnErr result (IsNoRun T.view self.old self.new) }
-        ensures same { IsSameEngine self.old self.new }
 
         // Whatever it answers:
-        ensures later { IsLaterEngine self.old self.new }
-        ensures rose { RowRose J.Meter.counts meters.old meters.new }
-        ensures lanes { LanesWorked J.Meter.counts (meaning_of J.Job self.old.job) self.old.leaves window.now.window.leaves meters.old.lanes meters.new.lanes }
-        ensures parts { PartsWorked J.Meter.counts (meaning_of J.Job self.old.job) T.bound T.tight T.view self.old.settings.parts window.now meters.old.parts meters.new.parts self.old.parts self.new.parts }
-        ensures swept { OnOk result (SweptAll (horizon_of self.old.settings.keep self.new.runs) self.old.leaf_collector.caller self.new.leaf_collector.caller × SweptAll (horizon_of self.old.settings.keep self.new.runs) self.old.merge_collector.caller self.new.merge_collector.caller) }
-        ensures swept_some { SweptSome (horizon_of self.old.settings.keep (self.old.runs + 1)) self.old.leaf_collector.caller self.new.leaf_collector.caller × SweptSome (horizon_of self.old.settings.keep (self.old.runs + 1)) self.old.merge_collector.caller self.new.merge_collector.caller }
+        ensures worked { RunWorked J.Meter.counts (meaning_of J.Job self.old.job) T.bound T.tight T.view window.now meters.old meters.new self.old self.new }
     {
         part_laws::<J>();
         let run = self.runs + 1;

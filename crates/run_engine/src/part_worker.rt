@@ -1,5 +1,6 @@
 //! How a part's task is worked: its tree takes the shift with the sheets of the leaves that came.
 ghost use Rattle.std.specs.Prelude.{◌≡◌};
+ghost use Rattle.tree_laws.specs.Trees.{bound_of};
 ghost use Rattle.run_engine.specs.PartTasks.{IsReadyPart, IsAdvancedPart};
 
 use crate::part_seat::PartSeat;
@@ -43,7 +44,7 @@ where
     ] };
 
     ghost works = { λ w number old new. elim old [
-      | Work s m ↦ elim new [ Work t n ↦ IsAdvancedPart T.view T.pins T.bound T.tight T.shaped w.shift.now s.fresh.items s.tree s.caller t.tree t.caller (J.Meter.counts m) (J.Meter.counts n) t.failed | Sweep t ↦ ⊥ ]
+      | Work s m ↦ elim new [ Work t n ↦ IsAdvancedPart T.view T.pins (bound_of T.view T.bound) T.tight T.shaped w.shift.now s.fresh.items s.tree s.caller t.tree t.caller (J.Meter.counts m) (J.Meter.counts n) t.failed | Sweep t ↦ ⊥ ]
       | Sweep s ↦ elim new [ Work t n ↦ ⊥ | Sweep t ↦ IsSwept (horizon_of s.collector.keep w.run) s.collector t.collector t.failed ]
     ] };
 
@@ -68,7 +69,7 @@ fn advance_part<J: Job, T: Tree<J>, W: Wait>(
     meter: &mut J::Meter,
 )
     requires { IsReadyPart T.view T.pins T.KIND (J.setting worker.now.job.now) worker.now.memo.now.locks worker.now.shift.now seat.old.tree seat.old.caller seat.old.fresh.items }
-    ensures { IsAdvancedPart T.view T.pins T.bound T.tight T.shaped worker.now.shift.now seat.old.fresh.items seat.old.tree seat.old.caller seat.new.tree seat.new.caller (J.Meter.counts meter.old) (J.Meter.counts meter.new) seat.new.failed }
+    ensures { IsAdvancedPart T.view T.pins (bound_of T.view T.bound) T.tight T.shaped worker.now.shift.now seat.old.fresh.items seat.old.tree seat.old.caller seat.new.tree seat.new.caller (J.Meter.counts meter.old) (J.Meter.counts meter.new) seat.new.failed }
 {
     match seat.tree.advance(
         worker.alloc,

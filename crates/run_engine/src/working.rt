@@ -5,6 +5,7 @@ ghost use Rattle.job_laws.specs.Meanings.{meaning_of};
 ghost use Rattle.record_text.specs.Shifts.{left};
 ghost use Rattle.window_manager.specs.Views.{shift_of};
 ghost use Rattle.window_manager.specs.Since.{fresh_leaves};
+ghost use Rattle.tree_laws.specs.Trees.{bound_of};
 ghost use Rattle.run_engine.specs.InPlace.{EachAt, EachPair};
 ghost use Rattle.run_engine.specs.Inputs.{texts_of, input_for};
 ghost use Rattle.run_engine.specs.Sweeps.{IsSwept, swept_by};
@@ -78,7 +79,7 @@ where
     ensures brought { OnOk result (EachAt (λ k s. IsBroughtLane (fresh_leaves window.now) (left [] (shift_of window.now) (texts_of leaves.old.items)) k s.lane) lanes.new.items) }
     ensures took { OnOk result (EachPair (λ p s t. IsShiftedPart T.view (meaning_of J.Job job.now) count T.shaped (shift_of window.now) (fresh_leaves window.now) p s.tree t.tree) parts.old.items parts.new.items) }
     ensures lanes_counted { LanesCounted (meaning_of J.Job job.now) J.Meter.counts (texts_of leaves.old.items) (fresh_leaves window.now) lane_meters.old.items lane_meters.new.items }
-    ensures parts_counted { PartsCounted T.view J.Meter.counts (meaning_of J.Job job.now) count T.bound T.tight (shift_of window.now) (fresh_leaves window.now) parts.old.items parts.new.items part_meters.old.items part_meters.new.items }
+    ensures parts_counted { PartsCounted T.view J.Meter.counts (meaning_of J.Job job.now) count (bound_of T.view T.bound) T.tight (shift_of window.now) (fresh_leaves window.now) parts.old.items parts.new.items part_meters.old.items part_meters.new.items }
     ensures leaf_sweep { IsSome leaf_sweep.new × IsSwept (horizon_of (swept_by (option_map (λ s. s.collector) leaf_sweep.old)).keep run) (swept_by (option_map (λ s. s.collector) leaf_sweep.old)) (swept_by (option_map (λ s. s.collector) leaf_sweep.new)) (is_err result) }
     ensures merge_sweep { IsSome merge_sweep.new × IsSwept (horizon_of (swept_by (option_map (λ s. s.collector) merge_sweep.old)).keep run) (swept_by (option_map (λ s. s.collector) merge_sweep.old)) (swept_by (option_map (λ s. s.collector) merge_sweep.new)) (is_err result) }
 {

@@ -104,6 +104,10 @@ module _ {V : Type 0} where
   abbrev pub IsWithin : List (List ℕ × V) → List (List (List ℕ × V)) → Type 0
   IsWithin t ts = (key : List ℕ) → value_at (end_to_end ts) key ≡ None → value_at t key ≡ None
 
+  -- The most merges of an advance of this tree by the shift.
+  abbrev pub bound_of : {T : Type 0} → (T → TreeView V) → (ℕ → Shape → ℕ → Shift → ℕ) → T → Shift → ℕ
+  bound_of view bound tree shift = bound (view tree).places (view tree).leaves.shape (length (view tree).leaves.tables) shift
+
   -- How many keys stand in the tables, each counted once.
   abbrev pub distinct_keys : List (List (List ℕ × V)) → ℕ
   distinct_keys ts = length (keys_of (end_to_end ts))

@@ -6,7 +6,7 @@ ghost use Rattle.sheets.specs.United.{tables_of};
 ghost use Rattle.pin_table.specs.Covers.{PinName, Covered, Balanced};
 ghost use Rattle.pin_table.specs.OwnEvents.{Met};
 ghost use Rattle.record_text.specs.Shifts.{FitsShift, shifted};
-ghost use Rattle.tree_laws.specs.Trees.{Shape, TreeView, bare, IsDrafted, LooseOnlyIf, settled, reverted, IsRoot, distinct_keys};
+ghost use Rattle.tree_laws.specs.Trees.{Shape, TreeView, bare, IsDrafted, LooseOnlyIf, settled, reverted, IsRoot, distinct_keys, bound_of};
 
 use crate::MergeRecipe;
 use job_laws::{Job, Meter};
@@ -37,8 +37,8 @@ pub trait Tree<J: Job>: Drop {
     // The most pins that it has where no draft stands.
     ghost most: { Self → ℕ };
 
-    // The most merges of an advance by the shift.
-    ghost bound: { Self → Shift → ℕ };
+    // The most merges of an advance by the shift, by the places of the window, the shape of the leaves and their number.
+    ghost bound: { ℕ → Shape → ℕ → Shift → ℕ };
 
     // The most merges of an advance by the shift that brings these tables, where nothing is loose or becomes so.
     ghost tight: { Self → Shift → List (List (List ℕ × J.Val)) → ℕ };
@@ -87,7 +87,7 @@ pub trait Tree<J: Job>: Drop {
         ensures balanced { Balanced caller.old (pins self.old) caller.new (pins self.new) }
         ensures few { (view self.new).draft ≡ None → length (pins self.new) ≤ most self.new }
         ensures loose { LooseOnlyIf (Met caller.old caller.new) (view self.old) (view self.new) }
-        ensures counted { RoseBy 0 (bound self.old shift.now) (bound self.old shift.now * distinct_keys (shifted shift.now (tables_of fresh.now) (view self.old).leaves.tables)) (J.Meter.counts m.old) (J.Meter.counts m.new) }
+        ensures counted { RoseBy 0 (bound_of view bound self.old shift.now) (bound_of view bound self.old shift.now * distinct_keys (shifted shift.now (tables_of fresh.now) (view self.old).leaves.tables)) (J.Meter.counts m.old) (J.Meter.counts m.new) }
         ensures tight { (view self.old).leaves.loose ≡ false → (Met caller.old caller.new → ⊥) → RoseWithin (tight self.old shift.now (tables_of fresh.now)) (J.Meter.counts m.old).merges (J.Meter.counts m.new).merges };
 
     /// Makes the draft the leaves, and gives up the pins that only the leaves before it used. It takes no memory, walks the

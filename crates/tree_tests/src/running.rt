@@ -4,7 +4,7 @@ ghost use Rattle.job_laws.specs.Counted.{RoseBy};
 ghost use Rattle.sheets.specs.United.{tables_of};
 ghost use Rattle.record_text.specs.Shifts.{FitsShift, shifted};
 ghost use Rattle.pin_table.specs.Covers.{PinName, Covered, Balanced};
-ghost use Rattle.tree_laws.specs.Trees.{IsSettled, distinct_keys};
+ghost use Rattle.tree_laws.specs.Trees.{IsSettled, bound_of, distinct_keys};
 
 use job_laws::{Job, Meter};
 use pin_table::{Caller, Memo};
@@ -40,7 +40,7 @@ pub(crate) fn run_once<J: Job, T: Tree<J>, W: Wait>(
     ensures covered { Covered caller.new (T.pins tree.new) }
     ensures balanced { Balanced caller.old (T.pins tree.old) caller.new (T.pins tree.new) }
     ensures few { length (T.pins tree.new) ≤ T.most tree.new }
-    ensures counted { RoseBy 0 (T.bound tree.old shift.now) (T.bound tree.old shift.now * distinct_keys (shifted shift.now (tables_of fresh.now) (T.view tree.old).leaves.tables)) (J.Meter.counts m.old) (J.Meter.counts m.new) }
+    ensures counted { RoseBy 0 (bound_of T.view T.bound tree.old shift.now) (bound_of T.view T.bound tree.old shift.now * distinct_keys (shifted shift.now (tables_of fresh.now) (T.view tree.old).leaves.tables)) (J.Meter.counts m.old) (J.Meter.counts m.new) }
 {
     match tree.advance(alloc, rt, memo, caller, job, run, shift, fresh, m) {
         Ok(()) => {
@@ -75,7 +75,7 @@ pub(crate) fn run_and_drop<J: Job, T: Tree<J>, W: Wait>(
     requires settings { All (λ s. s.setting ≡ (T.view tree).setting) fresh.now }
     ensures of { caller.new.locks ≡ caller.old.locks }
     ensures others { (ps : List PinName) → Covered caller.old (T.pins tree ++ ps) → Covered caller.new ps }
-    ensures counted { RoseBy 0 (T.bound tree shift.now) (T.bound tree shift.now * distinct_keys (shifted shift.now (tables_of fresh.now) (T.view tree).leaves.tables)) (J.Meter.counts m.old) (J.Meter.counts m.new) }
+    ensures counted { RoseBy 0 (bound_of T.view T.bound tree shift.now) (bound_of T.view T.bound tree shift.now * distinct_keys (shifted shift.now (tables_of fresh.now) (T.view tree).leaves.tables)) (J.Meter.counts m.old) (J.Meter.counts m.new) }
 {
     run_once(
         alloc, rt, memo, caller, job, run, &mut tree, shift, fresh, m,
