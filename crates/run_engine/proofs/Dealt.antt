@@ -10,7 +10,7 @@ use Rattle.window_manager.specs.Windows.{Leaf}
 use Rattle.map_tasks.specs.Inputs.{InputView, input_digest, lane_at}
 use Rattle.map_tasks.specs.Texts.{TextView, IsQuiet, same_text, of_text, used_of, came_of, gone_of}
 use Rattle.map_tasks.specs.Lanes.{LaneView}
-use Rattle.map_tasks.proofs.Totals.{same-itself}
+use Rattle.map_tasks.proofs.Totals.{same-itself, quiet-none}
 use Rattle.run_engine.specs.NewTexts.{times, is_among}
 use Rattle.run_engine.specs.Inputs.{texts_of, goes_to}
 use Rattle.run_engine.specs.Engines.{IsLaneOf, of_lane}
@@ -42,24 +42,6 @@ pub goes-more : (k : ℕ) (inputs : List InputView) (i : ℕ) (x : InputView) �
 goes-more k inputs i x lt read =
     ap (goes_to k) (take_more inputs i x lt ∙ ap (λ (y : InputView). take i inputs ++ y ∷ []) (sym read))
     ∙ filter-append (λ (j : InputView). lane_at (input_digest j.text) 16 == k) (take i inputs) (x ∷ [])
-
--- Quiet texts have no notes.
-pub quiet-none : (t : Leaf) (es : List TextView) → All IsQuiet es → (came_of t es ≡ 0) × (gone_of t es ≡ 0)
-quiet-none t [] quiet = (refl, refl)
-quiet-none t (e ∷ es) quiet =
-    let a = sum_by-cons (of_text t (λ x. x.came)) e es in
-    let b = sum_by-cons (of_text t (λ x. x.gone)) e es in
-    let r = quiet-none t es (All-tail IsQuiet e es quiet) in
-    let x = r.0 in
-    let y = r.1 in
-    let q = All-head IsQuiet e es quiet in
-    let c = test_case (same_text t e.input.text) e.came q.0 in
-    let d = test_case (same_text t e.input.text) e.gone q.1 in
-    (omega (arith, a, x, c), omega (arith, b, y, d))
-  where
-    test_case : (b : Bool) (n : ℕ) → n ≡ 0 → ◌≡◌ {A = ℕ} (cond b n 0) 0
-    test_case true n h = h
-    test_case false n h = refl
 
 -- A text is among leaves where it is there at least once.
 pub among-times : (leaves : List Leaf) (t : Leaf) → is_among leaves t ≡ nat_lt 0 (times t leaves)

@@ -13,6 +13,7 @@ use Rattle.pin_table.proofs.Covering.{later-same}
 use Rattle.window_manager.specs.Windows.{Leaf}
 use Rattle.map_tasks.specs.Inputs.{InputView, input_digest, lane_at}
 use Rattle.map_tasks.specs.Lanes.{LaneView}
+use Rattle.map_tasks.proofs.Totals.{quiet-none}
 use Rattle.run_engine.specs.NewTexts.{times, is_among}
 use Rattle.run_engine.specs.Inputs.{texts_of, goes_to}
 use Rattle.run_engine.specs.LaneTasks.{IsReadyLane, IsWorkedLane, IsInputFor, new_weight}
@@ -20,7 +21,7 @@ use Rattle.run_engine.specs.Engines.{IsLaneOf, of_lane}
 use Rattle.run_engine.specs.Phases.{IsTriedLane, IsBroughtLane, IsDealtLane, LanesCounted}
 use Rattle.run_engine.specs.Rows.{OthersStay}
 use Rattle.run_engine.proofs.TextCounts.{weight, lane_texts, lanes-weight, below-same}
-use Rattle.run_engine.proofs.Dealt.{leaf_lane, leaf-lane-within, goes-times, quiet-none, lane-may-leave}
+use Rattle.run_engine.proofs.Dealt.{leaf_lane, leaf-lane-within, goes-times, lane-may-leave}
 use Rattle.run_engine.proofs.Sums.{sum-rose}
 
 module _ {V : Type 0} (m : Meaning V) (setting parts : ℕ) where

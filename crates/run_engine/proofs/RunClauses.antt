@@ -19,7 +19,7 @@ use Rattle.run_engine.specs.Engines.{IsLaneSeat, IsPartSeat, IsTreeOf, seat_view
 use Rattle.run_engine.specs.Finishing.{MaySettle, MayRevert, SettlesLane, RevertsLane, SettlesTree, RevertsTree}
 use Rattle.run_engine.specs.Phases.{IsTriedLane, IsBroughtLane, IsTriedPart, IsShiftedPart}
 use Rattle.run_engine.proofs.InPlaceSteps.{pairs-then, pairs-mapped}
-use Rattle.run_engine.proofs.RunSteps.{lane-settled, lane-reverted, lane-undone, part-settled, part-reverted, seat-backed, loose-settled}
+use Rattle.run_engine.proofs.RunSteps.{lane-settled, lane-reverted, lane-undone, part-settled, part-shaped, part-reverted, seat-backed, loose-settled}
 
 module _ {J V M : Type 0} (parts setting : ℕ) (locks : List TableId) (leaves : List Leaf) (old mid new : List (LaneSeat J V M)) where
   -- All lanes stand over the leaves of now.
@@ -91,6 +91,14 @@ module _ {J T V M : Type 0} (m : Meaning V) (setting parts : ℕ) (view : T → 
           few = f.few;
           no_fresh = f.fresh_done;
         }
+
+    -- All trees have the shape that the shift makes of the one of before.
+    pub shapes-settled : (shaped : Shape → Shift → Shape) (shift : Shift) (fresh : List Leaf) → EachPair (λ p s t. IsShiftedPart view m parts shaped shift fresh p s.tree t.tree) old mid → EachPair (λ p s t. SettlesTree view pins most s.tree s.caller t.tree t.caller t.fresh.items) mid new
+        → EachPair (λ p s t. (view t.tree).leaves.shape ≡ shaped (view s.tree).leaves.shape shift) (map seat_view old) (map seat_view new)
+    shapes-settled shaped shift fresh took settles =
+        pairs-mapped seat_view (λ p s t. (view t.tree).leaves.shape ≡ shaped (view s.tree).leaves.shape shift) (λ p s t. (view t.tree).leaves.shape ≡ shaped (view s.tree).leaves.shape shift) old new (λ p s t r. r)
+        (pairs-then (λ p (s t : PartSeat J T V M). IsShiftedPart view m parts shaped shift fresh p s.tree t.tree) (λ p (s t : PartSeat J T V M). SettlesTree view pins most s.tree s.caller t.tree t.caller t.fresh.items) (λ p (s t : PartSeat J T V M). (view t.tree).leaves.shape ≡ shaped (view s.tree).leaves.shape shift) old mid new
+        (λ p s t u a b. part-shaped m setting parts view pins fresh p shaped shift s.tree t.tree u.tree a b.settled_is) took settles)
 
     -- All trees stand over the leaves of before.
     pub parts-reverted : EachAt (IsPartSeat m view pins most setting parts places first locks leaves) old → EachPair (λ p s t. IsTriedPart view pins s.tree s.caller t.tree t.caller) old mid → EachPair (λ p s t. RevertsTree view pins most s.tree s.caller t.tree t.caller t.fresh.items) mid new

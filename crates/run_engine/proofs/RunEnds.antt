@@ -16,7 +16,7 @@ use Rattle.window_manager.specs.Windows.{Leaf}
 use Rattle.window_manager.specs.Views.{WindowView, shift_of}
 use Rattle.window_manager.specs.Since.{IsSince, ShiftBalances, fresh_leaves}
 use Rattle.map_tasks.specs.Inputs.{InputView}
-use Rattle.tree_laws.specs.Trees.{Shape, TreeView}
+use Rattle.tree_laws.specs.Trees.{Shape, TreeView, bound_of}
 use Rattle.run_settings.specs.declared.settings.Settings.{Settings}
 use Rattle.run_engine.specs.declared.lane_seat.LaneSeat.{LaneSeat}
 use Rattle.run_engine.specs.declared.part_seat.PartSeat.{PartSeat}
@@ -27,13 +27,13 @@ use Rattle.run_engine.specs.Sweeps.{IsSwept, SweptAll, SweptSome, swept_by}
 use Rattle.run_engine.specs.Engines.{EngineView, IsWhole, IsPartSeat, IsCollectorIn, engine_of, seat_view}
 use Rattle.run_engine.specs.Finishing.{SettlesLane, RevertsLane, SettlesTree, RevertsTree}
 use Rattle.run_engine.specs.Phases.{IsTriedLane, IsBroughtLane, IsTriedPart, IsShiftedPart, LanesCounted, PartsCounted}
-use Rattle.run_engine.specs.Runs.{IsRun, IsNoRun, IsSameEngine, IsLaterEngine, LanesWorked, PartsWorked}
+use Rattle.run_engine.specs.Runs.{IsRun, IsNoRun, IsSameEngine, IsLaterEngine, LanesWorked, PartsWorked, RunWorked}
 use Rattle.run_engine.proofs.Moves.{moved-two}
 use Rattle.run_engine.proofs.EngineSteps.{since-new, since-balance, texts-for}
 use Rattle.run_engine.proofs.Fits.{among-brought}
 use Rattle.run_engine.proofs.Leads.{map-shifted}
 use Rattle.run_engine.proofs.RunSteps.{maps-within, joins-within}
-use Rattle.run_engine.proofs.RunClauses.{lanes-settled, lanes-reverted, lanes-undone, lanes-later, parts-settled, parts-reverted, trees-undone, parts-later}
+use Rattle.run_engine.proofs.RunClauses.{lanes-settled, lanes-reverted, lanes-undone, lanes-later, parts-settled, shapes-settled, parts-reverted, trees-undone, parts-later}
 use Rattle.run_engine.proofs.RunParts.{parts-rose, parts-clause}
 
 -- The texts of the inputs that were shifted are the window's leaves.
@@ -113,8 +113,16 @@ module _ {J T V M : Type 0} (mean : J → Meaning V) (view : T → TreeView V) (
           merge_sweeps = collects merge_memo.locks settings.keep merge_horizon (swept_by ms) (swept_by ms_now) failed whole.merge_sweeps merge_swept;
         }))
 
-    pub a-run : IsRun w v (engine_of job settings (runs + 1) first_now leaves_now leaf_memo merge_memo lanes_now parts_now ls_now ms_now)
-    a-run = subst (λ (o : EngineView J T). IsRun w o (engine_of job settings (runs + 1) first_now leaves_now leaf_memo merge_memo lanes_now parts_now ls_now ms_now)) seen (record { runs = refl; leaves = texts_now; first = first_is })
+    -- It swept all shards of both memos, where no sweep failed.
+    pub a-run : failed ≡ false → leaf_horizon ≡ horizon_of (swept_by ls).keep (runs + 1) → merge_horizon ≡ horizon_of (swept_by ms).keep (runs + 1) → IsRun view shaped w v (engine_of job settings (runs + 1) first_now leaves_now leaf_memo merge_memo lanes_now parts_now ls_now ms_now)
+    a-run well l r = subst (λ (o : EngineView J T). IsRun view shaped w o (engine_of job settings (runs + 1) first_now leaves_now leaf_memo merge_memo lanes_now parts_now ls_now ms_now)) seen (record {
+      runs = refl;
+      leaves = texts_now;
+      first = first_is;
+      shapes = shapes-settled (mean job) setting settings.parts view pins most settings.places first merge_memo.locks (texts_of leaves) parts parts_mid parts_now shaped (shift_of w) (fresh_leaves w) took parts_end;
+      leaf_swept = swept-whole leaf_memo.locks settings.keep (runs + 1) (swept_by ls) (swept_by ls_now) whole.leaf_sweeps (moved-two (λ (h : ℕ) (b : Bool). IsSwept h (swept_by ls) (swept_by ls_now) b) leaf_horizon (horizon_of (swept_by ls).keep (runs + 1)) failed false l well leaf_swept);
+      merge_swept = swept-whole merge_memo.locks settings.keep (runs + 1) (swept_by ms) (swept_by ms_now) whole.merge_sweeps (moved-two (λ (h : ℕ) (b : Bool). IsSwept h (swept_by ms) (swept_by ms_now) b) merge_horizon (horizon_of (swept_by ms).keep (runs + 1)) failed false r well merge_swept);
+    })
 
     pub later-settled : IsLaterEngine v (engine_of job settings (runs + 1) first_now leaves_now leaf_memo merge_memo lanes_now parts_now ls_now ms_now)
     later-settled = subst (λ (o : EngineView J T). IsLaterEngine o (engine_of job settings (runs + 1) first_now leaves_now leaf_memo merge_memo lanes_now parts_now ls_now ms_now)) seen (record {
@@ -124,9 +132,25 @@ module _ {J T V M : Type 0} (mean : J → Meaning V) (view : T → TreeView V) (
       merge_collector = merge_swept.later;
     })
 
-  module _ (counts : M → Counts) (bound : T → Shift → ℕ) (tight : T → Shift → List (List (List ℕ × V)) → ℕ) (w : WindowView) (since : IsSince first (texts_of leaves) w) (lane_meters lane_meters_now part_meters part_meters_now : List M) (row : Row M) (row_seen : ◌≡◌ {A = Row M} (record { lanes = lane_meters; parts = part_meters }) row) where
+  -- What no run changes, as the engine is seen.
+  same-seen : (runs_now first_now : ℕ) → IsSameEngine v (engine_of job settings runs_now first_now leaves_now leaf_memo merge_memo lanes_now parts_now ls_now ms_now)
+  same-seen runs_now first_now = subst (λ (o : EngineView J T). IsSameEngine o (engine_of job settings runs_now first_now leaves_now leaf_memo merge_memo lanes_now parts_now ls_now ms_now)) seen (record { job = refl; settings = refl; leaf_memo = refl; merge_memo = refl })
+
+  -- What the leaf memo's collector swept, as the engine is seen.
+  leaf-swept-seen : leaf_horizon ≡ horizon_of (swept_by ls).keep (runs + 1) → SweptSome (horizon_of v.settings.keep (v.runs + 1)) v.leaf_collector.caller (swept_by ls_now).caller
+  leaf-swept-seen l =
+      subst (λ (o : EngineView J T). SweptSome (horizon_of o.settings.keep (o.runs + 1)) o.leaf_collector.caller (swept_by ls_now).caller) seen
+      (swept-some leaf_memo.locks settings.keep (runs + 1) (swept_by ls) (swept_by ls_now) failed whole.leaf_sweeps (subst (λ (h : ℕ). IsSwept h (swept_by ls) (swept_by ls_now) failed) l leaf_swept))
+
+  -- What the merge memo's swept.
+  merge-swept-seen : merge_horizon ≡ horizon_of (swept_by ms).keep (runs + 1) → SweptSome (horizon_of v.settings.keep (v.runs + 1)) v.merge_collector.caller (swept_by ms_now).caller
+  merge-swept-seen r =
+      subst (λ (o : EngineView J T). SweptSome (horizon_of o.settings.keep (o.runs + 1)) o.merge_collector.caller (swept_by ms_now).caller) seen
+      (swept-some merge_memo.locks settings.keep (runs + 1) (swept_by ms) (swept_by ms_now) failed whole.merge_sweeps (subst (λ (h : ℕ). IsSwept h (swept_by ms) (swept_by ms_now) failed) r merge_swept))
+
+  module _ (counts : M → Counts) (bound : ℕ → Shape → ℕ → Shift → ℕ) (tight : T → Shift → List (List (List ℕ × V)) → ℕ) (w : WindowView) (since : IsSince first (texts_of leaves) w) (lane_meters lane_meters_now part_meters part_meters_now : List M) (row : Row M) (row_seen : ◌≡◌ {A = Row M} (record { lanes = lane_meters; parts = part_meters }) row) where
     -- What the lanes' meters counted.
-    pub lanes-worked : LanesCounted (mean job) counts (texts_of leaves) (fresh_leaves w) lane_meters lane_meters_now → LanesWorked counts (mean v.job) v.leaves w.window.leaves row.lanes lane_meters_now
+    lanes-worked : LanesCounted (mean job) counts (texts_of leaves) (fresh_leaves w) lane_meters lane_meters_now → LanesWorked counts (mean v.job) v.leaves w.window.leaves row.lanes lane_meters_now
     lanes-worked counted =
         let sub : (t : Leaf) → is_among (fresh_leaves w) t ≡ true → is_among w.window.leaves t ≡ true = λ t is. among-brought (shift_of w) w.window.leaves t (since-new (mean job) setting settings.parts w first (texts_of leaves) since) is in
         subst (λ (o : EngineView J T). LanesWorked counts (mean o.job) o.leaves w.window.leaves row.lanes lane_meters_now) seen
@@ -136,44 +160,40 @@ module _ {J T V M : Type 0} (mean : J → Meaning V) (view : T → TreeView V) (
         }))
 
     -- Each meter rose in its place.
-    pub row-rose : LanesCounted (mean job) counts (texts_of leaves) (fresh_leaves w) lane_meters lane_meters_now → PartsCounted view counts (mean job) settings.parts bound tight (shift_of w) (fresh_leaves w) parts parts_mid part_meters part_meters_now
+    row-rose : LanesCounted (mean job) counts (texts_of leaves) (fresh_leaves w) lane_meters lane_meters_now → PartsCounted view counts (mean job) settings.parts (bound_of view bound) tight (shift_of w) (fresh_leaves w) parts parts_mid part_meters part_meters_now
         → RowRose counts row (record { lanes = lane_meters_now; parts = part_meters_now })
     row-rose lane_counted part_counted = subst (λ (r : Row M). RowRose counts r (record { lanes = lane_meters_now; parts = part_meters_now })) row_seen (record {
       lanes = lane_counted.each;
-      parts = parts-rose view counts (mean job) settings.parts bound tight (shift_of w) (fresh_leaves w) parts parts_mid part_meters part_meters_now (let n = whole.parts_count in omega (arith, n)) tried_parts.count part_counted;
+      parts = parts-rose view counts (mean job) settings.parts (bound_of view bound) tight (shift_of w) (fresh_leaves w) parts parts_mid part_meters part_meters_now (let n = whole.parts_count in omega (arith, n)) tried_parts.count part_counted;
     })
 
     -- What the parts' meters counted, where the callers of now are later than those that counted.
-    pub parts-worked-by : PartsCounted view counts (mean job) settings.parts bound tight (shift_of w) (fresh_leaves w) parts parts_mid part_meters part_meters_now → length parts_now ≡ length parts_mid
+    parts-worked-by : PartsCounted view counts (mean job) settings.parts (bound_of view bound) tight (shift_of w) (fresh_leaves w) parts parts_mid part_meters part_meters_now → length parts_now ≡ length parts_mid
         → ((p : ℕ) (d e : PartSeat J T V M) → p < length parts_mid → IsLater (slice_index_or parts_mid p d).caller (slice_index_or parts_now p e).caller)
         → ((p : ℕ) (d e : PartSeat J T V M) → p < length parts → (view (slice_index_or parts_now p e).tree).leaves.loose ≡ true → ((view (slice_index_or parts p d).tree).leaves.loose ≡ true) ⊎ Met (slice_index_or parts p d).caller (slice_index_or parts_now p e).caller)
-        → PartsShare (mean job).joined → length part_meters ≡ 16 → PartsWorked counts (mean v.job) bound tight view v.settings.parts w row.parts part_meters_now v.parts (map seat_view parts_now)
+        → PartsShare (mean job).joined → length part_meters ≡ 16 → PartsWorked counts (mean v.job) bound tight view v.settings.parts v.settings.places (length v.leaves) w row.parts part_meters_now v.parts (map seat_view parts_now)
     parts-worked-by counted count later loose share many =
         let n = whole.parts_count in
         let o = tried_parts.count in
         let within = whole.settings_are in
-        subst (λ (o : EngineView J T). PartsWorked counts (mean o.job) bound tight view o.settings.parts w row.parts part_meters_now o.parts (map seat_view parts_now)) seen
-        (subst (λ (r : Row M). PartsWorked counts (mean job) bound tight view settings.parts w r.parts part_meters_now (map seat_view parts) (map seat_view parts_now)) row_seen (
+        subst (λ (o : EngineView J T). PartsWorked counts (mean o.job) bound tight view o.settings.parts o.settings.places (length o.leaves) w row.parts part_meters_now o.parts (map seat_view parts_now)) seen
+        (subst (λ (r : Row M). PartsWorked counts (mean job) bound tight view settings.parts settings.places (length (texts_of leaves)) w r.parts part_meters_now (map seat_view parts) (map seat_view parts_now)) row_seen (
         parts-clause counts (mean job) bound tight view pins most setting settings.parts settings.places merge_memo.locks w first (texts_of leaves) parts parts_mid parts_now part_meters part_meters_now since whole.parts_are n o (count ∙ o) counted
         (λ p d e lt. later p d e (omega (arith, lt, n, o))) (λ p d e lt. loose p d e (omega (arith, lt, n))) share (omega (arith, within)) (omega (arith, within, many))))
 
-  -- What was swept, as the engine is seen.
-  pub swept-some-seen : (run : ℕ) → run ≡ runs + 1 → leaf_horizon ≡ horizon_of (swept_by ls).keep run → merge_horizon ≡ horizon_of (swept_by ms).keep run
-      → SweptSome (horizon_of v.settings.keep (v.runs + 1)) v.leaf_collector.caller (swept_by ls_now).caller × SweptSome (horizon_of v.settings.keep (v.runs + 1)) v.merge_collector.caller (swept_by ms_now).caller
-  swept-some-seen run run_is l r =
-      subst (λ (o : EngineView J T). SweptSome (horizon_of o.settings.keep (o.runs + 1)) o.leaf_collector.caller (swept_by ls_now).caller × SweptSome (horizon_of o.settings.keep (o.runs + 1)) o.merge_collector.caller (swept_by ms_now).caller) seen (
-        subst (λ (n : ℕ). SweptSome (horizon_of settings.keep n) (swept_by ls).caller (swept_by ls_now).caller) run_is (swept-some leaf_memo.locks settings.keep run (swept_by ls) (swept_by ls_now) failed whole.leaf_sweeps (subst (λ (h : ℕ). IsSwept h (swept_by ls) (swept_by ls_now) failed) l leaf_swept)),
-        subst (λ (n : ℕ). SweptSome (horizon_of settings.keep n) (swept_by ms).caller (swept_by ms_now).caller) run_is (swept-some merge_memo.locks settings.keep run (swept_by ms) (swept_by ms_now) failed whole.merge_sweeps (subst (λ (h : ℕ). IsSwept h (swept_by ms) (swept_by ms_now) failed) r merge_swept)),
-      )
-
-  pub swept-all-seen : failed ≡ false → (run : ℕ) → leaf_horizon ≡ horizon_of (swept_by ls).keep run → merge_horizon ≡ horizon_of (swept_by ms).keep run
-      → SweptAll (horizon_of v.settings.keep run) v.leaf_collector.caller (swept_by ls_now).caller × SweptAll (horizon_of v.settings.keep run) v.merge_collector.caller (swept_by ms_now).caller
-  swept-all-seen well run l r =
-      subst (λ (o : EngineView J T). SweptAll (horizon_of o.settings.keep run) o.leaf_collector.caller (swept_by ls_now).caller × SweptAll (horizon_of o.settings.keep run) o.merge_collector.caller (swept_by ms_now).caller) seen (
-        swept-whole leaf_memo.locks settings.keep run (swept_by ls) (swept_by ls_now) whole.leaf_sweeps (moved-two (λ (h : ℕ) (b : Bool). IsSwept h (swept_by ls) (swept_by ls_now) b) leaf_horizon (horizon_of (swept_by ls).keep run) failed false l well leaf_swept),
-        swept-whole merge_memo.locks settings.keep run (swept_by ms) (swept_by ms_now) whole.merge_sweeps (moved-two (λ (h : ℕ) (b : Bool). IsSwept h (swept_by ms) (swept_by ms_now) b) merge_horizon (horizon_of (swept_by ms).keep run) failed false r well merge_swept),
-      )
-
-  -- What no run changes, as the engine is seen.
-  pub same-seen : (runs_now first_now : ℕ) → IsSameEngine v (engine_of job settings runs_now first_now leaves_now leaf_memo merge_memo lanes_now parts_now ls_now ms_now)
-  same-seen runs_now first_now = subst (λ (o : EngineView J T). IsSameEngine o (engine_of job settings runs_now first_now leaves_now leaf_memo merge_memo lanes_now parts_now ls_now ms_now)) seen (record { job = refl; settings = refl; leaf_memo = refl; merge_memo = refl })
+    -- All that a run does whatever it answers, by what its ends did.
+    pub run-worked : (runs_now first_now : ℕ) → IsLaterEngine v (engine_of job settings runs_now first_now leaves_now leaf_memo merge_memo lanes_now parts_now ls_now ms_now) → LanesCounted (mean job) counts (texts_of leaves) (fresh_leaves w) lane_meters lane_meters_now
+        → PartsCounted view counts (mean job) settings.parts (bound_of view bound) tight (shift_of w) (fresh_leaves w) parts parts_mid part_meters part_meters_now → length parts_now ≡ length parts_mid
+        → ((p : ℕ) (d e : PartSeat J T V M) → p < length parts_mid → IsLater (slice_index_or parts_mid p d).caller (slice_index_or parts_now p e).caller)
+        → ((p : ℕ) (d e : PartSeat J T V M) → p < length parts → (view (slice_index_or parts_now p e).tree).leaves.loose ≡ true → ((view (slice_index_or parts p d).tree).leaves.loose ≡ true) ⊎ Met (slice_index_or parts p d).caller (slice_index_or parts_now p e).caller)
+        → PartsShare (mean job).joined → length part_meters ≡ 16 → leaf_horizon ≡ horizon_of (swept_by ls).keep (runs + 1) → merge_horizon ≡ horizon_of (swept_by ms).keep (runs + 1)
+        → RunWorked counts (mean v.job) bound tight view w row (record { lanes = lane_meters_now; parts = part_meters_now }) v (engine_of job settings runs_now first_now leaves_now leaf_memo merge_memo lanes_now parts_now ls_now ms_now)
+    run-worked runs_now first_now later_engine lane_counted part_counted count later loose share many l r = record {
+      same = same-seen runs_now first_now;
+      later = later_engine;
+      rose = row-rose lane_counted part_counted;
+      lanes = lanes-worked lane_counted;
+      parts = parts-worked-by part_counted count later loose share many;
+      leaf_swept = leaf-swept-seen l;
+      merge_swept = merge-swept-seen r;
+    }

@@ -52,6 +52,10 @@ module _ (parts setting : ℕ) (leaves : List Leaf) (k : ℕ) where
 pub lane-undone : (parts setting : ℕ) (old mid new : LaneView) → IsTriedLane parts setting old mid → Reverts mid.texts new.texts → Reverts old.texts new.texts
 lane-undone parts setting old mid new tried reverts = record { used = λ t. reverts.used t ∙ tried.used t; quiet = reverts.quiet; some = reverts.some }
 
+-- A tree that settles has its draft as its leaves.
+settled-leaves : {V : Type 0} (v : TreeView V) (d : Leaves V) → v.draft ≡ Some d → (settled v).leaves ≡ d
+settled-leaves {V} v d is = ap (λ (o : Option (Leaves V)). (settled_by v o).leaves) is
+
 module _ {V T : Type 0} (m : Meaning V) (setting parts : ℕ) (view : T → TreeView V) (pins : T → List PinName) where
   -- A tree that took the shift and settled stands over the leaves of now.
   pub part-settled : (places first : ℕ) (leaves fresh : List Leaf) (part : ℕ) (shaped : Shape → Shift → Shape) (shift : Shift) (old mid new : T) → IsTreeOf m setting parts places first leaves part (view old) → IsShiftedPart view m parts shaped shift fresh part old mid → view new ≡ settled (view mid)
@@ -59,6 +63,12 @@ module _ {V T : Type 0} (m : Meaning V) (setting parts : ℕ) (view : T → Tree
   part-settled places first leaves fresh part shaped shift old mid new stands took is =
       subst (IsTreeOf m setting parts places (first_after shift first) (shifted shift fresh leaves) part) (sym is)
       (tree-leads m setting parts places first leaves part shift fresh shaped took.news took.tables (view old) (view mid) stands took.drafted)
+
+  -- Its shape is the one that the shift makes of the shape of before.
+  pub part-shaped : (fresh : List Leaf) (part : ℕ) (shaped : Shape → Shift → Shape) (shift : Shift) (old mid new : T) → IsShiftedPart view m parts shaped shift fresh part old mid → view new ≡ settled (view mid) → (view new).leaves.shape ≡ shaped (view old).leaves.shape shift
+  part-shaped fresh part shaped shift old mid new took is =
+      let d = took.drafted in
+      ap (λ (t : TreeView V). t.leaves.shape) is ∙ ap (λ (l : Leaves V). l.shape) (settled-leaves (view mid) d.draft (ap (λ (t : TreeView V). t.draft) d.is)) ∙ d.of.shape
 
   -- A tree that reverted is as before.
   pub part-reverted : (old mid new : T) (caller caller_mid : CallerView) → IsTriedPart view pins old caller mid caller_mid → view new ≡ reverted (view mid) → view new ≡ view old
@@ -75,9 +85,6 @@ module _ {V T : Type 0} (m : Meaning V) (setting parts : ℕ) (view : T → Tree
   loose-settled old mid new caller caller_mid caller_now draft loose drafted is later now =
       let settles : (view new).leaves ≡ draft = ap (λ (t : TreeView V). t.leaves) is ∙ settled-leaves (view mid) draft drafted in
       ⊎_elim (λ (h : (view old).leaves.loose ≡ true). inl h) (λ (h : Met caller caller_mid). inr (any-met-later caller caller_mid caller_now later h)) (loose draft drafted (sym (ap (λ (l : Leaves V). l.loose) settles) ∙ now))
-    where
-      settled-leaves : (v : TreeView V) (d : Leaves V) → v.draft ≡ Some d → (settled v).leaves ≡ d
-      settled-leaves v d is = ap (λ (o : Option (Leaves V)). (settled_by v o).leaves) is
 
 -- The new records among the leaves that came are among those of all leaves.
 pub new-within : (w : Leaf → ℕ) (old fresh now : List Leaf) → ((t : Leaf) → is_among fresh t ≡ true → is_among now t ≡ true) → sum_by w (new_texts (is_among old) fresh) ≤ sum_by w (new_texts (is_among old) now)

@@ -1,6 +1,7 @@
 use Rattle.std.proofs.Common.{rules, ◌≡◌, true, false, List, length, drop, All, sym, ap, subst, ◌∙◌}
 use Rattle.std.specs.Prelude.{Some}
 use Rattle.collector.specs.Collectors.{CollectorView, horizon_of}
+use Rattle.tree_laws.specs.Trees.{bound_of}
 use Rattle.run_engine.specs.Sweeps.{IsSwept}
 use Rattle.run_engine.proofs.RowSteps.{row-ready, each-work, others-stay}
 use Rattle.run_engine.proofs.PartPhase.{parts-well, parts-unwell, parts-unworked}
@@ -15,7 +16,7 @@ work_row-worked-requires-clause-ready g c κs within =
 pub returns-in-Err-clause-worked : goal.returns-in-Err-clause-worked
 returns-in-Err-clause-worked g c =
     let same = on-err c.work_row-worked.result.0 c.in-Err.e c.in-Err.is c.work_row-worked.ensures.err in
-    parts-unworked g.T.Tree.view g.T.Tree.pins g.T.Tree.bound g.T.Tree.tight g.T.Tree.shaped c.args.worker.now.shift.now g.J.Meter.Meter.counts c.args.parts.now.items c.work_row-worked.new.items.items c.args.meters.now.items c.work_row-worked.new.meters.items g.T.Tree.KIND (g.J.Job.setting c.args.worker.now.job.now) c.args.worker.now.memo.now.locks
+    parts-unworked g.T.Tree.view g.T.Tree.pins (bound_of g.T.Tree.view g.T.Tree.bound) g.T.Tree.tight g.T.Tree.shaped c.args.worker.now.shift.now g.J.Meter.Meter.counts c.args.parts.now.items c.work_row-worked.new.items.items c.args.meters.now.items c.work_row-worked.new.meters.items g.T.Tree.KIND (g.J.Job.setting c.args.worker.now.job.now) c.args.worker.now.memo.now.locks
     same.0 same.1 c.requires.parts c.requires.meters
 
 pub returns-in-Err-clause-others : goal.returns-in-Err-clause-others
@@ -34,7 +35,7 @@ pub returns-then-unswept-clause-worked : goal.returns-then-unswept-clause-worked
 returns-then-unswept-clause-worked g c =
     let done = on-ok c.work_row-worked.result.0 _ c.in-Ok.is c.work_row-worked.ensures.ok in
     let each = each-work c.args.parts.now.items c.args.meters.now.items c.in-Some.last c.work_row-worked.new.items.items c.work_row-worked.new.meters.items c.work_row-worked.result.1 _ c.requires.meters done in
-    parts-unwell g.T.Tree.view g.T.Tree.pins g.T.Tree.bound g.T.Tree.tight g.T.Tree.shaped c.args.worker.now.shift.now g.J.Meter.Meter.counts c.args.parts.now.items c.work_row-worked.new.items.items c.args.meters.now.items c.work_row-worked.new.meters.items done.count (λ k d f e h lt. (each.0 k d f e h lt).1)
+    parts-unwell g.T.Tree.view g.T.Tree.pins (bound_of g.T.Tree.view g.T.Tree.bound) g.T.Tree.tight g.T.Tree.shaped c.args.worker.now.shift.now g.J.Meter.Meter.counts c.args.parts.now.items c.work_row-worked.new.items.items c.args.meters.now.items c.work_row-worked.new.meters.items done.count (λ k d f e h lt. (each.0 k d f e h lt).1)
 
 pub returns-then-unswept-clause-others : goal.returns-then-unswept-clause-others
 returns-then-unswept-clause-others g c =
@@ -54,7 +55,7 @@ returns-then-all_advanced-clause-worked g c =
     let done = on-ok c.work_row-worked.result.0 _ c.in-Ok.is c.work_row-worked.ensures.ok in
     let each = each-work c.args.parts.now.items c.args.meters.now.items c.in-Some.last c.work_row-worked.new.items.items c.work_row-worked.new.meters.items c.work_row-worked.result.1 _ c.requires.meters done in
     let all : All (λ s. s.failed ≡ false) c.work_row-worked.new.items.items = search rules in
-    parts-well g.T.Tree.view g.T.Tree.pins g.T.Tree.bound g.T.Tree.tight g.T.Tree.shaped c.args.worker.now.shift.now g.J.Meter.Meter.counts c.args.parts.now.items c.work_row-worked.new.items.items c.args.meters.now.items c.work_row-worked.new.meters.items done.count (λ k d f e h lt. (each.0 k d f e h lt).1) all
+    parts-well g.T.Tree.view g.T.Tree.pins (bound_of g.T.Tree.view g.T.Tree.bound) g.T.Tree.tight g.T.Tree.shaped c.args.worker.now.shift.now g.J.Meter.Meter.counts c.args.parts.now.items c.work_row-worked.new.items.items c.args.meters.now.items c.work_row-worked.new.meters.items done.count (λ k d f e h lt. (each.0 k d f e h lt).1) all
 
 pub returns-then-all_advanced-clause-others : goal.returns-then-all_advanced-clause-others
 returns-then-all_advanced-clause-others g c =
@@ -73,7 +74,7 @@ pub returns-clause-worked : goal.returns-clause-worked
 returns-clause-worked g c =
     let done = on-ok c.work_row-worked.result.0 _ c.in-Ok.is c.work_row-worked.ensures.ok in
     let each = each-work c.args.parts.now.items c.args.meters.now.items c.in-Some.last c.work_row-worked.new.items.items c.work_row-worked.new.meters.items c.work_row-worked.result.1 _ c.requires.meters done in
-    parts-unwell g.T.Tree.view g.T.Tree.pins g.T.Tree.bound g.T.Tree.tight g.T.Tree.shaped c.args.worker.now.shift.now g.J.Meter.Meter.counts c.args.parts.now.items c.work_row-worked.new.items.items c.args.meters.now.items c.work_row-worked.new.meters.items done.count (λ k d f e h lt. (each.0 k d f e h lt).1)
+    parts-unwell g.T.Tree.view g.T.Tree.pins (bound_of g.T.Tree.view g.T.Tree.bound) g.T.Tree.tight g.T.Tree.shaped c.args.worker.now.shift.now g.J.Meter.Meter.counts c.args.parts.now.items c.work_row-worked.new.items.items c.args.meters.now.items c.work_row-worked.new.meters.items done.count (λ k d f e h lt. (each.0 k d f e h lt).1)
 
 pub returns-clause-others : goal.returns-clause-others
 returns-clause-others g c =

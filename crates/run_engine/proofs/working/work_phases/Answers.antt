@@ -7,6 +7,7 @@ use Rattle.window_manager.specs.Windows.{Leaf}
 use Rattle.window_manager.specs.Views.{shift_of}
 use Rattle.window_manager.specs.Since.{fresh_leaves}
 use Rattle.map_tasks.specs.Inputs.{InputView}
+use Rattle.tree_laws.specs.Trees.{bound_of}
 use Rattle.run_engine.specs.declared.lane_seat.LaneSeat.{LaneSeat}
 use Rattle.run_engine.specs.declared.part_seat.PartSeat.{PartSeat}
 use Rattle.run_engine.specs.InPlace.{EachAt, EachPair}
@@ -37,7 +38,7 @@ pub returns-in-Err-clause-lanes_counted : goal.returns-in-Err-clause-lanes_count
 returns-in-Err-clause-lanes_counted g c = none-counted (meaning_of g.J.Job c.args.job.now) g.J.Meter.Meter.counts (texts_of c.args.leaves.now.items) (fresh_leaves c.args.window.now) c.args.lane_meters.now.items
 
 pub returns-in-Err-clause-parts_counted : goal.returns-in-Err-clause-parts_counted
-returns-in-Err-clause-parts_counted g c = parts-uncounted g.J.Meter.Meter.counts (meaning_of g.J.Job c.args.job.now) g.T.Tree.bound g.T.Tree.tight g.T.Tree.view g.T.Tree.pins g.T.Tree.most (g.J.Job.setting c.args.job.now) c.args.count 0 c.args.merge_memo.now.locks (shift_of c.args.window.now) (fresh_leaves c.args.window.now) c.args.parts.now.items c.args.parts.now.items c.args.part_meters.now.items
+returns-in-Err-clause-parts_counted g c = parts-uncounted g.J.Meter.Meter.counts (meaning_of g.J.Job c.args.job.now) (bound_of g.T.Tree.view g.T.Tree.bound) g.T.Tree.tight g.T.Tree.view c.args.count (shift_of c.args.window.now) (fresh_leaves c.args.window.now) c.args.parts.now.items c.args.parts.now.items c.args.part_meters.now.items
     (subst (λ (n : ℕ). n ≤ length c.args.part_meters.now.items) (sym c.requires.count) c.requires.part_meters)
 
 pub returns-in-Err-clause-leaf_sweep : goal.returns-in-Err-clause-leaf_sweep
@@ -73,7 +74,7 @@ returns-in-Err-bring_fresh-clause-parts g c =
 
 pub returns-in-Err-bring_fresh-clause-parts_counted : goal.returns-in-Err-bring_fresh-clause-parts_counted
 returns-in-Err-bring_fresh-clause-parts_counted g c =
-    parts-uncounted g.J.Meter.Meter.counts (meaning_of g.J.Job c.args.job.now) g.T.Tree.bound g.T.Tree.tight g.T.Tree.view g.T.Tree.pins g.T.Tree.most (g.J.Job.setting c.args.job.now) c.args.count 0 c.args.merge_memo.now.locks (shift_of c.args.window.now) (fresh_leaves c.args.window.now) c.args.parts.now.items c.args.parts.now.items c.args.part_meters.now.items
+    parts-uncounted g.J.Meter.Meter.counts (meaning_of g.J.Job c.args.job.now) (bound_of g.T.Tree.view g.T.Tree.bound) g.T.Tree.tight g.T.Tree.view c.args.count (shift_of c.args.window.now) (fresh_leaves c.args.window.now) c.args.parts.now.items c.args.parts.now.items c.args.part_meters.now.items
     (subst (λ (n : ℕ). n ≤ length c.args.part_meters.now.items) (sym c.requires.count) c.requires.part_meters)
 
 pub returns-in-Err-bring_fresh-clause-merge_sweep : goal.returns-in-Err-bring_fresh-clause-merge_sweep
@@ -102,7 +103,7 @@ returns-in-Err-take_shift-clause-lanes_counted g c =
 
 pub returns-in-Err-take_shift-clause-parts_counted : goal.returns-in-Err-take_shift-clause-parts_counted
 returns-in-Err-take_shift-clause-parts_counted g c =
-    moved-three (λ (n : ℕ) (h : Shift) (f : List Leaf). PartsCounted g.T.Tree.view g.J.Meter.Meter.counts (meaning_of g.J.Job c.args.job.now) n g.T.Tree.bound g.T.Tree.tight h f c.args.parts.now.items c.take_shift.new.parts.items c.args.part_meters.now.items c.take_shift.new.meters.items) (length c.args.parts.now.items) c.args.count c.shift-shift.result.now (shift_of c.args.window.now) (texts_of c.in-Ok.fresh.items) (fresh_leaves c.args.window.now) (sym c.requires.count) c.shift-shift.ensures.shift (ap texts_of (c.in-Ok.ensures.fresh ∙ ap (λ (n : ℕ). map (input_for c.args.count n) (fresh_leaves c.args.window.now)) c.setting.ensures) ∙ texts-for c.args.count (g.J.Job.setting c.args.job.now) (fresh_leaves c.args.window.now)) c.take_shift.ensures.counted
+    moved-three (λ (n : ℕ) (h : Shift) (f : List Leaf). PartsCounted g.T.Tree.view g.J.Meter.Meter.counts (meaning_of g.J.Job c.args.job.now) n (bound_of g.T.Tree.view g.T.Tree.bound) g.T.Tree.tight h f c.args.parts.now.items c.take_shift.new.parts.items c.args.part_meters.now.items c.take_shift.new.meters.items) (length c.args.parts.now.items) c.args.count c.shift-shift.result.now (shift_of c.args.window.now) (texts_of c.in-Ok.fresh.items) (fresh_leaves c.args.window.now) (sym c.requires.count) c.shift-shift.ensures.shift (ap texts_of (c.in-Ok.ensures.fresh ∙ ap (λ (n : ℕ). map (input_for c.args.count n) (fresh_leaves c.args.window.now)) c.setting.ensures) ∙ texts-for c.args.count (g.J.Job.setting c.args.job.now) (fresh_leaves c.args.window.now)) c.take_shift.ensures.counted
 
 pub returns-in-Ok-take_shift-clause-lanes : goal.returns-in-Ok-take_shift-clause-lanes
 returns-in-Ok-take_shift-clause-lanes g c =
@@ -118,7 +119,7 @@ returns-in-Ok-take_shift-clause-lanes_counted g c =
 
 pub returns-in-Ok-take_shift-clause-parts_counted : goal.returns-in-Ok-take_shift-clause-parts_counted
 returns-in-Ok-take_shift-clause-parts_counted g c =
-    moved-three (λ (n : ℕ) (h : Shift) (f : List Leaf). PartsCounted g.T.Tree.view g.J.Meter.Meter.counts (meaning_of g.J.Job c.args.job.now) n g.T.Tree.bound g.T.Tree.tight h f c.args.parts.now.items c.take_shift.new.parts.items c.args.part_meters.now.items c.take_shift.new.meters.items) (length c.args.parts.now.items) c.args.count c.shift-shift.result.now (shift_of c.args.window.now) (texts_of c.in-Ok.fresh.items) (fresh_leaves c.args.window.now) (sym c.requires.count) c.shift-shift.ensures.shift (ap texts_of (c.in-Ok.ensures.fresh ∙ ap (λ (n : ℕ). map (input_for c.args.count n) (fresh_leaves c.args.window.now)) c.setting.ensures) ∙ texts-for c.args.count (g.J.Job.setting c.args.job.now) (fresh_leaves c.args.window.now)) c.take_shift.ensures.counted
+    moved-three (λ (n : ℕ) (h : Shift) (f : List Leaf). PartsCounted g.T.Tree.view g.J.Meter.Meter.counts (meaning_of g.J.Job c.args.job.now) n (bound_of g.T.Tree.view g.T.Tree.bound) g.T.Tree.tight h f c.args.parts.now.items c.take_shift.new.parts.items c.args.part_meters.now.items c.take_shift.new.meters.items) (length c.args.parts.now.items) c.args.count c.shift-shift.result.now (shift_of c.args.window.now) (texts_of c.in-Ok.fresh.items) (fresh_leaves c.args.window.now) (sym c.requires.count) c.shift-shift.ensures.shift (ap texts_of (c.in-Ok.ensures.fresh ∙ ap (λ (n : ℕ). map (input_for c.args.count n) (fresh_leaves c.args.window.now)) c.setting.ensures) ∙ texts-for c.args.count (g.J.Job.setting c.args.job.now) (fresh_leaves c.args.window.now)) c.take_shift.ensures.counted
 
 pub returns-in-Err-take_shift-clause-leaf_sweep : goal.returns-in-Err-take_shift-clause-leaf_sweep
 returns-in-Err-take_shift-clause-leaf_sweep g c =

@@ -16,7 +16,7 @@ use Rattle.run_engine.proofs.Moves.{moved-three}
 use Rattle.run_engine.proofs.Fits.{fits-list}
 use Rattle.run_engine.proofs.EngineSteps.{may-bring, may-take}
 use Rattle.run_engine.proofs.RunClauses.{lanes-of, may-revert, may-settle, loose-stands, loose-undone}
-use Rattle.run_engine.proofs.RunEnds.{whole-undone, no-run, later-undone, whole-settled, a-run, later-settled, lanes-worked, row-rose, parts-worked-by, swept-some-seen, swept-all-seen, same-seen, texts-shifted}
+use Rattle.run_engine.proofs.RunEnds.{whole-undone, no-run, later-undone, whole-settled, a-run, later-settled, run-worked, texts-shifted}
 use Rattle.run_engine.proofs.engine.Engine.run.Goals as goal
 
 pub work_phases-requires-clause-lanes : goal.work_phases-requires-clause-lanes
@@ -94,72 +94,23 @@ returns-in-Err-clause-err g c =
     (horizon_of (swept_by (option_map (λ s. s.collector) e.leaf_sweep)).keep (e.runs + 1)) (horizon_of (swept_by (option_map (λ s. s.collector) e.merge_sweep)).keep (e.runs + 1)) true c.in-Err.ensures.leaf_sweep.1 c.in-Err.ensures.merge_sweep.1 c.args.self.now c.self.view_is
     p.ensures.same c.undo.ensures.lanes c.undo.ensures.parts
 
-pub returns-in-Err-clause-later : goal.returns-in-Err-clause-later
-returns-in-Err-clause-later g c =
+pub returns-in-Err-clause-worked : goal.returns-in-Err-clause-worked
+returns-in-Err-clause-worked g c =
     let e = c.self.inside in
     let w = c.args.window.now in
     let h = c.self.invariant.0 in
     let p = c.work_phases in
-    later-undone (meaning_of g.J.Job) g.T.Tree.view g.T.Tree.pins g.T.Tree.most e.job e.settings (g.J.Job.setting c.self.inside.job) e.runs e.first e.leaves.items p.new.leaves.items e.leaf_memo e.merge_memo e.lanes.items p.new.lanes.items c.undo.new.lanes.items e.parts.items p.new.parts.items c.undo.new.parts.items
+    let since : IsSince e.first (texts_of e.leaves.items) w = subst (λ (v : EngineView _ _). IsSince v.first v.leaves w) (sym c.self.view_is) c.requires.since in
+    let later = later-undone (meaning_of g.J.Job) g.T.Tree.view g.T.Tree.pins g.T.Tree.most e.job e.settings (g.J.Job.setting c.self.inside.job) e.runs e.first e.leaves.items p.new.leaves.items e.leaf_memo e.merge_memo e.lanes.items p.new.lanes.items c.undo.new.lanes.items e.parts.items p.new.parts.items c.undo.new.parts.items
     (option_map (λ s. s.collector) e.leaf_sweep) (option_map (λ s. s.collector) p.new.leaf_sweep) (option_map (λ s. s.collector) e.merge_sweep) (option_map (λ s. s.collector) p.new.merge_sweep) h p.ensures.lanes p.ensures.parts
     (horizon_of (swept_by (option_map (λ s. s.collector) e.leaf_sweep)).keep (e.runs + 1)) (horizon_of (swept_by (option_map (λ s. s.collector) e.merge_sweep)).keep (e.runs + 1)) true c.in-Err.ensures.leaf_sweep.1 c.in-Err.ensures.merge_sweep.1 c.args.self.now c.self.view_is
-    p.ensures.same c.undo.ensures.lanes c.undo.ensures.parts
-
-pub returns-in-Err-clause-rose : goal.returns-in-Err-clause-rose
-returns-in-Err-clause-rose g c =
-    let e = c.self.inside in
-    let w = c.args.window.now in
-    let h = c.self.invariant.0 in
-    let p = c.work_phases in
-    let since : IsSince e.first (texts_of e.leaves.items) w = subst (λ (v : EngineView _ _). IsSince v.first v.leaves w) (sym c.self.view_is) c.requires.since in
-    row-rose (meaning_of g.J.Job) g.T.Tree.view g.T.Tree.pins g.T.Tree.most e.job e.settings (g.J.Job.setting c.self.inside.job) e.runs e.first e.leaves.items p.new.leaves.items e.leaf_memo e.merge_memo e.lanes.items p.new.lanes.items c.undo.new.lanes.items e.parts.items p.new.parts.items c.undo.new.parts.items
+    p.ensures.same c.undo.ensures.lanes c.undo.ensures.parts in
+    run-worked (meaning_of g.J.Job) g.T.Tree.view g.T.Tree.pins g.T.Tree.most e.job e.settings (g.J.Job.setting c.self.inside.job) e.runs e.first e.leaves.items p.new.leaves.items e.leaf_memo e.merge_memo e.lanes.items p.new.lanes.items c.undo.new.lanes.items e.parts.items p.new.parts.items c.undo.new.parts.items
     (option_map (λ s. s.collector) e.leaf_sweep) (option_map (λ s. s.collector) p.new.leaf_sweep) (option_map (λ s. s.collector) e.merge_sweep) (option_map (λ s. s.collector) p.new.merge_sweep) h p.ensures.lanes p.ensures.parts
-    (horizon_of (swept_by (option_map (λ s. s.collector) e.leaf_sweep)).keep (e.runs + 1)) (horizon_of (swept_by (option_map (λ s. s.collector) e.merge_sweep)).keep (e.runs + 1)) true c.in-Err.ensures.leaf_sweep.1 c.in-Err.ensures.merge_sweep.1 c.args.self.now c.self.view_is g.J.Meter.Meter.counts g.T.Tree.bound g.T.Tree.tight w since c.meters.inside.lanes.items p.new.lane_meters.items c.meters.inside.parts.items p.new.part_meters.items c.args.meters.now c.meters.view_is p.ensures.lanes_counted p.ensures.parts_counted
-
-pub returns-in-Err-clause-lanes : goal.returns-in-Err-clause-lanes
-returns-in-Err-clause-lanes g c =
-    let e = c.self.inside in
-    let w = c.args.window.now in
-    let h = c.self.invariant.0 in
-    let p = c.work_phases in
-    let since : IsSince e.first (texts_of e.leaves.items) w = subst (λ (v : EngineView _ _). IsSince v.first v.leaves w) (sym c.self.view_is) c.requires.since in
-    lanes-worked (meaning_of g.J.Job) g.T.Tree.view g.T.Tree.pins g.T.Tree.most e.job e.settings (g.J.Job.setting c.self.inside.job) e.runs e.first e.leaves.items p.new.leaves.items e.leaf_memo e.merge_memo e.lanes.items p.new.lanes.items c.undo.new.lanes.items e.parts.items p.new.parts.items c.undo.new.parts.items
-    (option_map (λ s. s.collector) e.leaf_sweep) (option_map (λ s. s.collector) p.new.leaf_sweep) (option_map (λ s. s.collector) e.merge_sweep) (option_map (λ s. s.collector) p.new.merge_sweep) h p.ensures.lanes p.ensures.parts
-    (horizon_of (swept_by (option_map (λ s. s.collector) e.leaf_sweep)).keep (e.runs + 1)) (horizon_of (swept_by (option_map (λ s. s.collector) e.merge_sweep)).keep (e.runs + 1)) true c.in-Err.ensures.leaf_sweep.1 c.in-Err.ensures.merge_sweep.1 c.args.self.now c.self.view_is g.J.Meter.Meter.counts g.T.Tree.bound g.T.Tree.tight w since c.meters.inside.lanes.items p.new.lane_meters.items c.meters.inside.parts.items p.new.part_meters.items c.args.meters.now c.meters.view_is p.ensures.lanes_counted
-
-pub returns-in-Err-clause-parts : goal.returns-in-Err-clause-parts
-returns-in-Err-clause-parts g c =
-    let e = c.self.inside in
-    let w = c.args.window.now in
-    let h = c.self.invariant.0 in
-    let p = c.work_phases in
-    let since : IsSince e.first (texts_of e.leaves.items) w = subst (λ (v : EngineView _ _). IsSince v.first v.leaves w) (sym c.self.view_is) c.requires.since in
-    parts-worked-by (meaning_of g.J.Job) g.T.Tree.view g.T.Tree.pins g.T.Tree.most e.job e.settings (g.J.Job.setting c.self.inside.job) e.runs e.first e.leaves.items p.new.leaves.items e.leaf_memo e.merge_memo e.lanes.items p.new.lanes.items c.undo.new.lanes.items e.parts.items p.new.parts.items c.undo.new.parts.items
-    (option_map (λ s. s.collector) e.leaf_sweep) (option_map (λ s. s.collector) p.new.leaf_sweep) (option_map (λ s. s.collector) e.merge_sweep) (option_map (λ s. s.collector) p.new.merge_sweep) h p.ensures.lanes p.ensures.parts
-    (horizon_of (swept_by (option_map (λ s. s.collector) e.leaf_sweep)).keep (e.runs + 1)) (horizon_of (swept_by (option_map (λ s. s.collector) e.merge_sweep)).keep (e.runs + 1)) true c.in-Err.ensures.leaf_sweep.1 c.in-Err.ensures.merge_sweep.1 c.args.self.now c.self.view_is g.J.Meter.Meter.counts g.T.Tree.bound g.T.Tree.tight w since c.meters.inside.lanes.items p.new.lane_meters.items c.meters.inside.parts.items p.new.part_meters.items c.args.meters.now c.meters.view_is p.ensures.parts_counted c.undo.ensures.parts.count
+    (horizon_of (swept_by (option_map (λ s. s.collector) e.leaf_sweep)).keep (e.runs + 1)) (horizon_of (swept_by (option_map (λ s. s.collector) e.merge_sweep)).keep (e.runs + 1)) true c.in-Err.ensures.leaf_sweep.1 c.in-Err.ensures.merge_sweep.1 c.args.self.now c.self.view_is g.J.Meter.Meter.counts g.T.Tree.bound g.T.Tree.tight w since c.meters.inside.lanes.items p.new.lane_meters.items c.meters.inside.parts.items p.new.part_meters.items c.args.meters.now c.meters.view_is e.runs e.first later p.ensures.lanes_counted p.ensures.parts_counted c.undo.ensures.parts.count
     (λ q d f lt. (c.undo.ensures.parts.each q d f lt).balanced.later)
     (loose-undone (meaning_of g.J.Job c.self.inside.job) (g.J.Job.setting c.self.inside.job) e.settings.parts g.T.Tree.view g.T.Tree.pins g.T.Tree.most e.settings.places e.first e.merge_memo.locks (texts_of e.leaves.items) e.parts.items p.new.parts.items h.parts_are c.undo.new.parts.items p.ensures.parts c.undo.ensures.parts)
-    (c.part_laws.ensures.share (g.J.Job.setting c.self.inside.job)) c.meters.invariant.1
-
-pub returns-in-Err-clause-swept_some : goal.returns-in-Err-clause-swept_some
-returns-in-Err-clause-swept_some g c =
-    let e = c.self.inside in
-    let w = c.args.window.now in
-    let h = c.self.invariant.0 in
-    let p = c.work_phases in
-    swept-some-seen (meaning_of g.J.Job) g.T.Tree.view g.T.Tree.pins g.T.Tree.most e.job e.settings (g.J.Job.setting c.self.inside.job) e.runs e.first e.leaves.items p.new.leaves.items e.leaf_memo e.merge_memo e.lanes.items p.new.lanes.items c.undo.new.lanes.items e.parts.items p.new.parts.items c.undo.new.parts.items
-    (option_map (λ s. s.collector) e.leaf_sweep) (option_map (λ s. s.collector) p.new.leaf_sweep) (option_map (λ s. s.collector) e.merge_sweep) (option_map (λ s. s.collector) p.new.merge_sweep) h p.ensures.lanes p.ensures.parts
-    (horizon_of (swept_by (option_map (λ s. s.collector) e.leaf_sweep)).keep (e.runs + 1)) (horizon_of (swept_by (option_map (λ s. s.collector) e.merge_sweep)).keep (e.runs + 1)) true c.in-Err.ensures.leaf_sweep.1 c.in-Err.ensures.merge_sweep.1 c.args.self.now c.self.view_is (e.runs + 1) refl refl refl
-
-pub returns-in-Err-clause-same : goal.returns-in-Err-clause-same
-returns-in-Err-clause-same g c =
-    let e = c.self.inside in
-    let w = c.args.window.now in
-    let h = c.self.invariant.0 in
-    let p = c.work_phases in
-    same-seen (meaning_of g.J.Job) g.T.Tree.view g.T.Tree.pins g.T.Tree.most e.job e.settings (g.J.Job.setting c.self.inside.job) e.runs e.first e.leaves.items p.new.leaves.items e.leaf_memo e.merge_memo e.lanes.items p.new.lanes.items c.undo.new.lanes.items e.parts.items p.new.parts.items c.undo.new.parts.items
-    (option_map (λ s. s.collector) e.leaf_sweep) (option_map (λ s. s.collector) p.new.leaf_sweep) (option_map (λ s. s.collector) e.merge_sweep) (option_map (λ s. s.collector) p.new.merge_sweep) h p.ensures.lanes p.ensures.parts
-    (horizon_of (swept_by (option_map (λ s. s.collector) e.leaf_sweep)).keep (e.runs + 1)) (horizon_of (swept_by (option_map (λ s. s.collector) e.merge_sweep)).keep (e.runs + 1)) true c.in-Err.ensures.leaf_sweep.1 c.in-Err.ensures.merge_sweep.1 c.args.self.now c.self.view_is e.runs e.first
+    (c.part_laws.ensures.share (g.J.Job.setting c.self.inside.job)) c.meters.invariant.1 refl refl
 
 pub invariant_of-self : goal.invariant_of-self
 invariant_of-self g c =
@@ -194,10 +145,10 @@ returns-in-Ok-clause-ok g c =
     a-run (meaning_of g.J.Job) g.T.Tree.view g.T.Tree.pins g.T.Tree.most e.job e.settings (g.J.Job.setting c.self.inside.job) e.runs e.first e.leaves.items c.shift_items.new.items.items e.leaf_memo e.merge_memo e.lanes.items p.new.lanes.items c.finish.new.lanes.items e.parts.items p.new.parts.items c.finish.new.parts.items
     (option_map (λ s. s.collector) e.leaf_sweep) (option_map (λ s. s.collector) p.new.leaf_sweep) (option_map (λ s. s.collector) e.merge_sweep) (option_map (λ s. s.collector) p.new.merge_sweep) h p.ensures.lanes p.ensures.parts
     (horizon_of (swept_by (option_map (λ s. s.collector) e.leaf_sweep)).keep (e.runs + 1)) (horizon_of (swept_by (option_map (λ s. s.collector) e.merge_sweep)).keep (e.runs + 1)) false c.in-Ok.ensures.leaf_sweep.1 c.in-Ok.ensures.merge_sweep.1 c.args.self.now c.self.view_is
-    w since texts c.first_of-self-inside.result first g.T.Tree.shaped accepted shift_balances c.in-Ok.ensures.brought c.in-Ok.ensures.took c.finish.ensures.lanes c.finish.ensures.parts
+    w since texts c.first_of-self-inside.result first g.T.Tree.shaped accepted shift_balances c.in-Ok.ensures.brought c.in-Ok.ensures.took c.finish.ensures.lanes c.finish.ensures.parts refl refl refl
 
-pub returns-in-Ok-clause-later : goal.returns-in-Ok-clause-later
-returns-in-Ok-clause-later g c =
+pub returns-in-Ok-clause-worked : goal.returns-in-Ok-clause-worked
+returns-in-Ok-clause-worked g c =
     let e = c.self.inside in
     let w = c.args.window.now in
     let h = c.self.invariant.0 in
@@ -207,76 +158,16 @@ returns-in-Ok-clause-later g c =
     let texts : texts_of c.shift_items.new.items.items ≡ w.window.leaves = texts-shifted e.settings.parts (g.J.Job.setting c.self.inside.job) (shift_of w) (fresh_leaves w) w.window.leaves e.leaves.items p.new.leaves.items c.in-Ok.fresh.items c.shift_items.new.items.items since.leads p.ensures.same c.in-Ok.ensures.fresh
     (c.shift_items.ensures ∙ ap (λ (i : Shift). shifted i c.in-Ok.fresh.items p.new.leaves.items) c.shift-shift.ensures.shift) in
     let first : c.first_of-self-inside.result ≡ first_after (shift_of w) e.first = c.first_of-self-inside.ensures ∙ ap (λ (i : Shift). first_after i e.first) c.shift-shift.ensures.shift in
-    later-settled (meaning_of g.J.Job) g.T.Tree.view g.T.Tree.pins g.T.Tree.most e.job e.settings (g.J.Job.setting c.self.inside.job) e.runs e.first e.leaves.items c.shift_items.new.items.items e.leaf_memo e.merge_memo e.lanes.items p.new.lanes.items c.finish.new.lanes.items e.parts.items p.new.parts.items c.finish.new.parts.items
+    let later = later-settled (meaning_of g.J.Job) g.T.Tree.view g.T.Tree.pins g.T.Tree.most e.job e.settings (g.J.Job.setting c.self.inside.job) e.runs e.first e.leaves.items c.shift_items.new.items.items e.leaf_memo e.merge_memo e.lanes.items p.new.lanes.items c.finish.new.lanes.items e.parts.items p.new.parts.items c.finish.new.parts.items
     (option_map (λ s. s.collector) e.leaf_sweep) (option_map (λ s. s.collector) p.new.leaf_sweep) (option_map (λ s. s.collector) e.merge_sweep) (option_map (λ s. s.collector) p.new.merge_sweep) h p.ensures.lanes p.ensures.parts
     (horizon_of (swept_by (option_map (λ s. s.collector) e.leaf_sweep)).keep (e.runs + 1)) (horizon_of (swept_by (option_map (λ s. s.collector) e.merge_sweep)).keep (e.runs + 1)) false c.in-Ok.ensures.leaf_sweep.1 c.in-Ok.ensures.merge_sweep.1 c.args.self.now c.self.view_is
-    w since texts c.first_of-self-inside.result first g.T.Tree.shaped accepted shift_balances c.in-Ok.ensures.brought c.in-Ok.ensures.took c.finish.ensures.lanes c.finish.ensures.parts
-
-pub returns-in-Ok-clause-rose : goal.returns-in-Ok-clause-rose
-returns-in-Ok-clause-rose g c =
-    let e = c.self.inside in
-    let w = c.args.window.now in
-    let h = c.self.invariant.0 in
-    let p = c.work_phases in
-    let since : IsSince e.first (texts_of e.leaves.items) w = subst (λ (v : EngineView _ _). IsSince v.first v.leaves w) (sym c.self.view_is) c.requires.since in
-    row-rose (meaning_of g.J.Job) g.T.Tree.view g.T.Tree.pins g.T.Tree.most e.job e.settings (g.J.Job.setting c.self.inside.job) e.runs e.first e.leaves.items c.shift_items.new.items.items e.leaf_memo e.merge_memo e.lanes.items p.new.lanes.items c.finish.new.lanes.items e.parts.items p.new.parts.items c.finish.new.parts.items
+    w since texts c.first_of-self-inside.result first g.T.Tree.shaped accepted shift_balances c.in-Ok.ensures.brought c.in-Ok.ensures.took c.finish.ensures.lanes c.finish.ensures.parts in
+    run-worked (meaning_of g.J.Job) g.T.Tree.view g.T.Tree.pins g.T.Tree.most e.job e.settings (g.J.Job.setting c.self.inside.job) e.runs e.first e.leaves.items c.shift_items.new.items.items e.leaf_memo e.merge_memo e.lanes.items p.new.lanes.items c.finish.new.lanes.items e.parts.items p.new.parts.items c.finish.new.parts.items
     (option_map (λ s. s.collector) e.leaf_sweep) (option_map (λ s. s.collector) p.new.leaf_sweep) (option_map (λ s. s.collector) e.merge_sweep) (option_map (λ s. s.collector) p.new.merge_sweep) h p.ensures.lanes p.ensures.parts
-    (horizon_of (swept_by (option_map (λ s. s.collector) e.leaf_sweep)).keep (e.runs + 1)) (horizon_of (swept_by (option_map (λ s. s.collector) e.merge_sweep)).keep (e.runs + 1)) false c.in-Ok.ensures.leaf_sweep.1 c.in-Ok.ensures.merge_sweep.1 c.args.self.now c.self.view_is g.J.Meter.Meter.counts g.T.Tree.bound g.T.Tree.tight w since c.meters.inside.lanes.items p.new.lane_meters.items c.meters.inside.parts.items p.new.part_meters.items c.args.meters.now c.meters.view_is p.ensures.lanes_counted p.ensures.parts_counted
-
-pub returns-in-Ok-clause-lanes : goal.returns-in-Ok-clause-lanes
-returns-in-Ok-clause-lanes g c =
-    let e = c.self.inside in
-    let w = c.args.window.now in
-    let h = c.self.invariant.0 in
-    let p = c.work_phases in
-    let since : IsSince e.first (texts_of e.leaves.items) w = subst (λ (v : EngineView _ _). IsSince v.first v.leaves w) (sym c.self.view_is) c.requires.since in
-    lanes-worked (meaning_of g.J.Job) g.T.Tree.view g.T.Tree.pins g.T.Tree.most e.job e.settings (g.J.Job.setting c.self.inside.job) e.runs e.first e.leaves.items c.shift_items.new.items.items e.leaf_memo e.merge_memo e.lanes.items p.new.lanes.items c.finish.new.lanes.items e.parts.items p.new.parts.items c.finish.new.parts.items
-    (option_map (λ s. s.collector) e.leaf_sweep) (option_map (λ s. s.collector) p.new.leaf_sweep) (option_map (λ s. s.collector) e.merge_sweep) (option_map (λ s. s.collector) p.new.merge_sweep) h p.ensures.lanes p.ensures.parts
-    (horizon_of (swept_by (option_map (λ s. s.collector) e.leaf_sweep)).keep (e.runs + 1)) (horizon_of (swept_by (option_map (λ s. s.collector) e.merge_sweep)).keep (e.runs + 1)) false c.in-Ok.ensures.leaf_sweep.1 c.in-Ok.ensures.merge_sweep.1 c.args.self.now c.self.view_is g.J.Meter.Meter.counts g.T.Tree.bound g.T.Tree.tight w since c.meters.inside.lanes.items p.new.lane_meters.items c.meters.inside.parts.items p.new.part_meters.items c.args.meters.now c.meters.view_is p.ensures.lanes_counted
-
-pub returns-in-Ok-clause-parts : goal.returns-in-Ok-clause-parts
-returns-in-Ok-clause-parts g c =
-    let e = c.self.inside in
-    let w = c.args.window.now in
-    let h = c.self.invariant.0 in
-    let p = c.work_phases in
-    let since : IsSince e.first (texts_of e.leaves.items) w = subst (λ (v : EngineView _ _). IsSince v.first v.leaves w) (sym c.self.view_is) c.requires.since in
-    parts-worked-by (meaning_of g.J.Job) g.T.Tree.view g.T.Tree.pins g.T.Tree.most e.job e.settings (g.J.Job.setting c.self.inside.job) e.runs e.first e.leaves.items c.shift_items.new.items.items e.leaf_memo e.merge_memo e.lanes.items p.new.lanes.items c.finish.new.lanes.items e.parts.items p.new.parts.items c.finish.new.parts.items
-    (option_map (λ s. s.collector) e.leaf_sweep) (option_map (λ s. s.collector) p.new.leaf_sweep) (option_map (λ s. s.collector) e.merge_sweep) (option_map (λ s. s.collector) p.new.merge_sweep) h p.ensures.lanes p.ensures.parts
-    (horizon_of (swept_by (option_map (λ s. s.collector) e.leaf_sweep)).keep (e.runs + 1)) (horizon_of (swept_by (option_map (λ s. s.collector) e.merge_sweep)).keep (e.runs + 1)) false c.in-Ok.ensures.leaf_sweep.1 c.in-Ok.ensures.merge_sweep.1 c.args.self.now c.self.view_is g.J.Meter.Meter.counts g.T.Tree.bound g.T.Tree.tight w since c.meters.inside.lanes.items p.new.lane_meters.items c.meters.inside.parts.items p.new.part_meters.items c.args.meters.now c.meters.view_is p.ensures.parts_counted c.finish.ensures.parts.count
+    (horizon_of (swept_by (option_map (λ s. s.collector) e.leaf_sweep)).keep (e.runs + 1)) (horizon_of (swept_by (option_map (λ s. s.collector) e.merge_sweep)).keep (e.runs + 1)) false c.in-Ok.ensures.leaf_sweep.1 c.in-Ok.ensures.merge_sweep.1 c.args.self.now c.self.view_is g.J.Meter.Meter.counts g.T.Tree.bound g.T.Tree.tight w since c.meters.inside.lanes.items p.new.lane_meters.items c.meters.inside.parts.items p.new.part_meters.items c.args.meters.now c.meters.view_is (e.runs + 1) c.first_of-self-inside.result later p.ensures.lanes_counted p.ensures.parts_counted c.finish.ensures.parts.count
     (λ q d f lt. (c.finish.ensures.parts.each q d f lt).balanced.later)
     (loose-stands (meaning_of g.J.Job c.self.inside.job) (g.J.Job.setting c.self.inside.job) e.settings.parts g.T.Tree.view g.T.Tree.pins g.T.Tree.most e.settings.places e.first e.merge_memo.locks (texts_of e.leaves.items) e.parts.items p.new.parts.items h.parts_are g.T.Tree.shaped (shift_of w) (fresh_leaves w) c.finish.new.parts.items p.ensures.parts c.in-Ok.ensures.took c.finish.ensures.parts)
-    (c.part_laws.ensures.share (g.J.Job.setting c.self.inside.job)) c.meters.invariant.1
-
-pub returns-in-Ok-clause-swept_some : goal.returns-in-Ok-clause-swept_some
-returns-in-Ok-clause-swept_some g c =
-    let e = c.self.inside in
-    let w = c.args.window.now in
-    let h = c.self.invariant.0 in
-    let p = c.work_phases in
-    swept-some-seen (meaning_of g.J.Job) g.T.Tree.view g.T.Tree.pins g.T.Tree.most e.job e.settings (g.J.Job.setting c.self.inside.job) e.runs e.first e.leaves.items c.shift_items.new.items.items e.leaf_memo e.merge_memo e.lanes.items p.new.lanes.items c.finish.new.lanes.items e.parts.items p.new.parts.items c.finish.new.parts.items
-    (option_map (λ s. s.collector) e.leaf_sweep) (option_map (λ s. s.collector) p.new.leaf_sweep) (option_map (λ s. s.collector) e.merge_sweep) (option_map (λ s. s.collector) p.new.merge_sweep) h p.ensures.lanes p.ensures.parts
-    (horizon_of (swept_by (option_map (λ s. s.collector) e.leaf_sweep)).keep (e.runs + 1)) (horizon_of (swept_by (option_map (λ s. s.collector) e.merge_sweep)).keep (e.runs + 1)) false c.in-Ok.ensures.leaf_sweep.1 c.in-Ok.ensures.merge_sweep.1 c.args.self.now c.self.view_is (e.runs + 1) refl refl refl
-
-pub returns-in-Ok-clause-swept : goal.returns-in-Ok-clause-swept
-returns-in-Ok-clause-swept g c =
-    let e = c.self.inside in
-    let w = c.args.window.now in
-    let h = c.self.invariant.0 in
-    let p = c.work_phases in
-    swept-all-seen (meaning_of g.J.Job) g.T.Tree.view g.T.Tree.pins g.T.Tree.most e.job e.settings (g.J.Job.setting c.self.inside.job) e.runs e.first e.leaves.items c.shift_items.new.items.items e.leaf_memo e.merge_memo e.lanes.items p.new.lanes.items c.finish.new.lanes.items e.parts.items p.new.parts.items c.finish.new.parts.items
-    (option_map (λ s. s.collector) e.leaf_sweep) (option_map (λ s. s.collector) p.new.leaf_sweep) (option_map (λ s. s.collector) e.merge_sweep) (option_map (λ s. s.collector) p.new.merge_sweep) h p.ensures.lanes p.ensures.parts
-    (horizon_of (swept_by (option_map (λ s. s.collector) e.leaf_sweep)).keep (e.runs + 1)) (horizon_of (swept_by (option_map (λ s. s.collector) e.merge_sweep)).keep (e.runs + 1)) false c.in-Ok.ensures.leaf_sweep.1 c.in-Ok.ensures.merge_sweep.1 c.args.self.now c.self.view_is refl (e.runs + 1) refl refl
-
-pub returns-in-Ok-clause-same : goal.returns-in-Ok-clause-same
-returns-in-Ok-clause-same g c =
-    let e = c.self.inside in
-    let w = c.args.window.now in
-    let h = c.self.invariant.0 in
-    let p = c.work_phases in
-    same-seen (meaning_of g.J.Job) g.T.Tree.view g.T.Tree.pins g.T.Tree.most e.job e.settings (g.J.Job.setting c.self.inside.job) e.runs e.first e.leaves.items c.shift_items.new.items.items e.leaf_memo e.merge_memo e.lanes.items p.new.lanes.items c.finish.new.lanes.items e.parts.items p.new.parts.items c.finish.new.parts.items
-    (option_map (λ s. s.collector) e.leaf_sweep) (option_map (λ s. s.collector) p.new.leaf_sweep) (option_map (λ s. s.collector) e.merge_sweep) (option_map (λ s. s.collector) p.new.merge_sweep) h p.ensures.lanes p.ensures.parts
-    (horizon_of (swept_by (option_map (λ s. s.collector) e.leaf_sweep)).keep (e.runs + 1)) (horizon_of (swept_by (option_map (λ s. s.collector) e.merge_sweep)).keep (e.runs + 1)) false c.in-Ok.ensures.leaf_sweep.1 c.in-Ok.ensures.merge_sweep.1 c.args.self.now c.self.view_is (e.runs + 1) c.first_of-self-inside.result
+    (c.part_laws.ensures.share (g.J.Job.setting c.self.inside.job)) c.meters.invariant.1 refl refl
 
 pub shift_items-requires-clause-fits : goal.shift_items-requires-clause-fits
 shift_items-requires-clause-fits g c =
