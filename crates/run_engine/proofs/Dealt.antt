@@ -1,14 +1,14 @@
 -- Inputs dealt to lanes: how often each text goes to a lane, and what that makes of the lane.
-use Rattle.std.proofs.Common.{◌≡◌, ℕ, zero, suc, ◌+◌, ◌<◌, ◌≤◌, Bool, true, false, cond, ◌||◌, ◌==◌, nat_lt, List, [], ◌∷◌, ◌++◌, length, All, take, refl, ap, sym, ◌∙◌, arith}
+use Rattle.std.proofs.Common.{◌≡◌, ℕ, zero, suc, ◌+◌, ◌<◌, ◌≤◌, Bool, true, false, cond, ◌||◌, ◌==◌, nat_lt, List, [], ◌∷◌, ◌++◌, length, take, refl, ap, sym, ◌∙◌, arith}
 use Rattle.std.specs.Prelude.{slice_index, slice_index_or}
 use Rattle.std.proofs.lemmas.Nat.{mod_below}
 use Rattle.std.proofs.lemmas.Bool.Decides.{nat_tests}
 use Rattle.std.proofs.lemmas.List.{take_more, map-append}
 use Rattle.std.proofs.lemmas.List.Sums.{sum_by-cons, sum_by-append}
-use Rattle.std.proofs.lemmas.List.Elements.{All-head, All-tail, filter-append}
+use Rattle.std.proofs.lemmas.List.Elements.{filter-append}
 use Rattle.window_manager.specs.Windows.{Leaf}
 use Rattle.map_tasks.specs.Inputs.{InputView, input_digest, lane_at}
-use Rattle.map_tasks.specs.Texts.{TextView, IsQuiet, same_text, of_text, used_of, came_of, gone_of}
+use Rattle.map_tasks.specs.Texts.{same_text, used_of, came_of}
 use Rattle.map_tasks.specs.Lanes.{LaneView}
 use Rattle.map_tasks.proofs.Totals.{same-itself, quiet-none}
 use Rattle.run_engine.specs.NewTexts.{times, is_among}
