@@ -4,14 +4,13 @@ use Rattle.std.specs.Prelude.{Option}
 use Rattle.std.specs.declared.option.Option.TheVariants.{Some, None}
 use Rattle.std.specs.Option.{option_or}
 use Rattle.record_text.specs.declared.command.Command.{Command}
-use Rattle.record_text.specs.declared.command.Command.TheVariants.{Run}
+use Rattle.record_text.specs.declared.command.Command.TheVariants.{Bucket, Drop, Late, File, Remove, Edit, Load, Run}
 use Rattle.record_text.specs.declared.script_fault.ScriptFault.{ScriptFault}
 use Rattle.record_text.specs.Script.{Script, Ending, with_command}
 use Rattle.window_manager.specs.Windows.{WindowState, window_after, refusal_of}
 use Rattle.window_manager.specs.declared.fault.WindowFault.{WindowFault}
 use Rattle.job_laws.specs.Meanings.{Meaning}
 use Rattle.slider_session.specs.Output.{Outcome, after_bytes, ended_by, unless_refused, on_command, outcome_from, outcome_of}
-use Rattle.slider_session.proofs.Stepping.{not_run}
 use Rattle.plain_program.specs.Plain.{ending_of_rest}
 use Rattle.plain_program.specs.Walk.{walked_from}
 use Rattle.plain_program.specs.declared.walk.PlainWalk.{PlainWalk}
@@ -29,6 +28,17 @@ one_more read more c line last old new all is at told before =
 pub first_fault : (refused fault : Option ScriptFault) (ending : Ending) → ending_of_rest (option_or refused fault) ending ≡ ending_of_rest refused (ending_of_rest fault ending)
 first_fault None fault ending = refl
 first_fault (Some f) fault ending = refl
+
+-- a command other than a run is the window's
+not_run : {V : Type 0} (j : Meaning V) (i : ℕ) (w : WindowState) (c : Command) (line : ℕ) (go : ℕ → WindowState → Outcome) → c ≢ Run → on_command j i w c line go ≡ unless_refused (refusal_of j.accepts w c) line (go i (window_after w c))
+not_run j i w (Bucket records) line go other = refl
+not_run j i w (Drop n) line go other = refl
+not_run j i w (Late place more) line go other = refl
+not_run j i w (File name) line go other = refl
+not_run j i w (Remove name) line go other = refl
+not_run j i w (Edit at del ins) line go other = refl
+not_run j i w (Load records) line go other = refl
+not_run j i w Run line go other = absurd (other refl)
 
 -- a command other than a run: carried out by the window, or refused
 module _ {V : Type 0} (j : Meaning V) (w : WindowState) (c : Command) (other : c ≢ Run) (i line : ℕ) (go : ℕ → WindowState → Outcome) where

@@ -1,12 +1,9 @@
 -- A window that takes no refused record holds accepted records.
 use Rattle.std.proofs.Common.{◌≡◌, ℕ, zero, suc, ◌+◌, ◌-◌, Bool, true, false, not, List, [], ◌∷◌, ◌++◌, length, take, drop, refl, sym, subst, All, cond}
-use Rattle.std.specs.Prelude.{Option, Result, Ok, Err, if◌then◌else◌, IsTrue}
+use Rattle.std.specs.Prelude.{Option, if◌then◌else◌, IsTrue}
 use Rattle.std.specs.declared.option.Option.TheVariants.{Some, None}
 use Rattle.std.specs.Ordering.{is_lt, eq_by_cmp}
 use Rattle.std.proofs.lemmas.List.Elements.{All-nil, All-cons, All-head, All-tail, All-append, All-push, All-take, All-drop, All-filter}
-use Rattle.definitions.specs.Tables.{HasGoodValues}
-use Rattle.definitions.specs.Answer.{pairs_of}
-use Rattle.definitions.proofs.AnswerLaws.{good-append}
 use Rattle.marker_chunker.specs.Cuts.{chunks_of, joined}
 use Rattle.marker_chunker.proofs.CutLaws.{joined_chunks}
 use Rattle.chunk_store.specs.Documents.{spliced}
@@ -16,10 +13,8 @@ use Rattle.record_text.specs.declared.kind.Kind.{Kind}
 use Rattle.record_text.specs.declared.kind.Kind.TheVariants as Kinds
 use Rattle.record_text.specs.declared.command.Command.{Command}
 use Rattle.record_text.specs.declared.command.Command.TheVariants.{Bucket, Drop, Late, File, Remove, Edit, Load, Run}
-use Rattle.window_manager.specs.Windows.{Leaf, WindowState, empty_window, with_leaf, with_late, with_files, current_records, with_current, window_after, has_command, asks_too_many, brought, refused_from, first_refused, is_large, record_refusal, refusal_of}
-use Rattle.window_manager.specs.Views.{WindowView, Done}
-use Rattle.window_manager.specs.declared.fault.WindowFault.{WindowFault}
-use Rattle.window_manager.specs.declared.fault.WindowFault.TheVariants.{NotHere, TooMany, BadRecord, WindowLarge, Mem}
+use Rattle.window_manager.specs.Windows.{Leaf, WindowState, with_leaf, with_late, with_files, current_records, with_current, window_after, has_command, asks_too_many, brought, refused_from, first_refused, is_large, record_refusal, refusal_of}
+use Rattle.window_manager.specs.declared.fault.WindowFault.TheVariants.{NotHere, TooMany}
 use Rattle.job_laws.specs.Meanings.{Meaning, AllAccepted}
 use Rattle.slider_session.specs.Accepted.{HoldsAccepted}
 
@@ -51,11 +46,6 @@ module _ {V : Type 0} (j : Meaning V) where
       none true true large o h = cc
       none true false large None h = refl
       none true false large (Some index) h = cc
-
-  -- what accepted records emit has good values
-  pub records_good : (good : V → Type 0) → ((r : List ℕ) → IsTrue (j.accepts r) → HasGoodValues good (j.emits r)) → (records : List (List ℕ)) → AllAccepted j records → HasGoodValues good (pairs_of j.emits records)
-  records_good good each [] all = tt
-  records_good good each (r ∷ rs) all = good-append good (j.emits r) (pairs_of j.emits rs) (each r (All-head (λ r. IsTrue (j.accepts r)) r rs all)) (records_good good each rs (All-tail (λ r. IsTrue (j.accepts r)) r rs all))
 
   -- where each leaf is accepted, all records are
   pub joined_accepted : (leaves : List Leaf) → All (AllAccepted j) leaves → AllAccepted j (joined leaves)
@@ -126,16 +116,3 @@ module _ {V : Type 0} (j : Meaning V) where
   -- a command that is not refused leaves a window of accepted records
   pub keeps_accepted : (w : WindowState) (c : Command) → refusal_of j.accepts w c ≡ None → HoldsAccepted j w → HoldsAccepted j (window_after w c)
   keeps_accepted w c taken holds = after_accepted w c (brings_accepted w c taken) holds
-
-  -- whether a command is carried out or refused, the window holds accepted records
-  pub done_accepted : (old new : WindowView) (c : Command) (result : Result (Unit {0}) WindowFault) → Done (refusal_of j.accepts old.window c) old new c result → HoldsAccepted j old.window → HoldsAccepted j new.window
-  done_accepted old new c (Ok done) d holds = subst (HoldsAccepted j) (sym d.1.window) (keeps_accepted old.window c d.0 holds)
-  done_accepted old new c (Err NotHere) d holds = subst (λ (v : WindowView). HoldsAccepted j v.window) (sym d.1) holds
-  done_accepted old new c (Err TooMany) d holds = subst (λ (v : WindowView). HoldsAccepted j v.window) (sym d.1) holds
-  done_accepted old new c (Err (BadRecord index)) d holds = subst (λ (v : WindowView). HoldsAccepted j v.window) (sym d.1) holds
-  done_accepted old new c (Err WindowLarge) d holds = subst (λ (v : WindowView). HoldsAccepted j v.window) (sym d.1) holds
-  done_accepted old new c (Err Mem) d holds = subst (λ (v : WindowView). HoldsAccepted j v.window) (sym d.1) holds
-
-  -- an empty window holds no record
-  pub none_held : (kind : Kind) (places : ℕ) → HoldsAccepted j (empty_window kind places)
-  none_held kind places = record { leaves = All-nil (AllAccepted j); files = All-nil Taken }

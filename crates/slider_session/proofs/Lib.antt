@@ -1,5 +1,12 @@
 pub mod Accepted
 pub mod Tables
 pub mod PartRoots
+pub mod Sessions
 pub mod Stepping
+pub mod Lines
+pub mod WorkSums
+pub mod CostLaws
+pub mod Sayings
 pub mod Walks
+pub mod WorkLaws
+pub mod Answered

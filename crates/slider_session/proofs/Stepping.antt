@@ -1,15 +1,19 @@
 -- A step is a step of the script: what it writes, and how the script goes on behind it.
-use Rattle.std.proofs.Common.{◌≡◌, ◌≢◌, ℕ, ◌+◌, ◌≤◌, List, [], ◌++◌, refl, sym, ap, ◌∙◌, subst, append-nil, append_assoc, inl, inr, arith}
+use Rattle.std.proofs.Common.{◌≡◌, ◌≢◌, ℕ, ◌+◌, ◌≤◌, List, [], ◌++◌, refl, sym, ap, ◌∙◌, subst, append-nil, append_assoc, inl, inr, ◌⊎◌, arith}
 use Rattle.std.specs.Prelude.{Option, Result, Ok, Err}
 use Rattle.std.specs.declared.option.Option.TheVariants.{Some, None}
 use Rattle.definitions.specs.Outside.{Rose, Told, IsPrefix, GainsPrefix}
 use Rattle.definitions.proofs.ToldBytes.{told_same}
 use Rattle.record_text.specs.declared.command.Command.{Command}
 use Rattle.record_text.specs.declared.command.Command.TheVariants.{Bucket, Drop, Late, File, Remove, Edit, Load, Run}
+use Rattle.record_text.specs.declared.shift.Shift.{Shift}
 use Rattle.record_text.specs.declared.script_fault.ScriptFault.{ScriptFault}
 use Rattle.record_text.specs.Script.{Ending, Faulty}
 use Rattle.window_manager.specs.Windows.{WindowState, window_after, refusal_of}
 use Rattle.window_manager.specs.Slides.{Slid, slid_after}
+use Rattle.window_manager.specs.Views.{WindowView}
+use Rattle.tree_laws.specs.Trees.{Shape, TreeView}
+use Rattle.run_engine.specs.Runs.{IsSameEngine}
 use Rattle.job_laws.specs.Meanings.{Meaning}
 use Rattle.slider_session.specs.Devices.{DeviceView}
 use Rattle.slider_session.specs.Output.{IsOfScript, Outcome, after_bytes, unless_refused, on_command}
@@ -21,29 +25,28 @@ use Rattle.slider_session.specs.declared.halt.Halt.TheVariants as Halts
 abbrev pub Going : Type 0
 Going = ℕ → WindowState → Outcome
 
-module _ {V : Type 0} (j : Meaning V) (old new : SessionView) (c : Command) (line : ℕ) (before now : Option (List ℕ)) where
+module _ {J T V : Type 0} (j : Meaning V) (old new : SessionView J T) (c : Command) (line : ℕ) (before now : Option (List ℕ)) where
   -- a command was carried out: what was written, and how the script goes on
   pub record Goes : Type 0 where
     pub gain : List ℕ
     pub written : Told before now (λ bytes more. more ≡ bytes ++ gain)
-    pub goes : (go : Going) → on_command j (old.runs + 1) (state_of old) c line go ≡ after_bytes gain (go (new.runs + 1) (state_of new))
-    pub runs : new.runs ≤ old.runs + 1
+    pub goes : (go : Going) → on_command j (old.engine.runs + 1) (state_of old) c line go ≡ after_bytes gain (go (new.engine.runs + 1) (state_of new))
+    pub runs : new.engine.runs ≤ old.engine.runs + 1
     pub accepted : accepted_of new ≤ accepted_of old + 1
-    pub setting : new.setting ≡ old.setting
 
   -- a command was cut short: a prefix of what it writes was written
   pub record IsCut : Type 0 where
     pub gain : List ℕ
     pub written : Told before now (λ bytes more. more ≡ bytes ++ gain)
-    pub prefix : (go : Going) → IsPrefix gain (on_command j (old.runs + 1) (state_of old) c line go).0
+    pub prefix : (go : Going) → IsPrefix gain (on_command j (old.engine.runs + 1) (state_of old) c line go).0
 
   -- a command was refused: the script ends there, and nothing was written
   pub record IsRefused (fault : ScriptFault) : Type 0 where
-    pub ends : (go : Going) → on_command j (old.runs + 1) (state_of old) c line go ≡ ([], Faulty fault.line fault.why)
+    pub ends : (go : Going) → on_command j (old.engine.runs + 1) (state_of old) c line go ≡ ([], Faulty fault.line fault.why)
     pub unwritten : now ≡ before
 
 -- what a step comes to, over what was seen of the sink before and after it
-abbrev pub ComesTo : {V : Type 0} → Meaning V → SessionView → SessionView → Command → ℕ → DeviceView → DeviceView → Result (Unit {0}) Halt → Type 0
+abbrev pub ComesTo : {J T V : Type 0} → Meaning V → SessionView J T → SessionView J T → Command → ℕ → DeviceView → DeviceView → Result (Unit {0}) Halt → Type 0
 ComesTo j old new c line before now (Ok done) = Goes j old new c line before.bytes now.bytes
 ComesTo j old new c line before now (Err (Halts.Script fault)) = IsRefused j old new c line before.bytes now.bytes fault × IsOfScript fault.why
 ComesTo j old new c line before now (Err Halts.Read) = ⊥
@@ -72,24 +75,23 @@ gained all None (Some y) t = absurd t
 gained all (Some x) None t = absurd t
 gained all (Some x) (Some y) t = (t.0, t.1, t.2)
 
-module _ {V : Type 0} (j : Meaning V) (old new : SessionView) (line : ℕ) (before now : DeviceView) where
+module _ {J T V : Type 0} (j : Meaning V) (view : T → TreeView V) (shaped : Shape → Shift → Shape) (old new : SessionView J T) (line : ℕ) (before now : DeviceView) where
   -- the window's command, where `on_command` is the window's
-  module _ (c : Command) (windows : (go : Going) → on_command j (old.runs + 1) (state_of old) c line go ≡ unless_refused (refusal_of j.accepts (state_of old) c) line (go (old.runs + 1) (window_after (state_of old) c))) where
+  module _ (c : Command) (windows : (go : Going) → on_command j (old.engine.runs + 1) (state_of old) c line go ≡ unless_refused (refusal_of j.accepts (state_of old) c) line (go (old.engine.runs + 1) (window_after (state_of old) c))) where
     pub change_comes : (result : Result (Unit {0}) Halt) → Changes j.accepts old new c line result → now ≡ before → ComesTo j old new c line before now result
     change_comes (Ok done) a same = record {
       gain = [];
       written = unwritten before.bytes now.bytes (ap (λ (d : DeviceView). d.bytes) same);
       goes = λ go. windows go
-          ∙ ap (λ o. unless_refused o line (go (old.runs + 1) (window_after (state_of old) c))) a.0
-          ∙ (λ i. go (sym (ap (λ (h : SessionView). h.runs) a.2) i + 1) (sym a.1.window i));
-      runs = let same = ap (λ (h : SessionView). h.runs) a.2 in omega (arith, same);
+          ∙ ap (λ o. unless_refused o line (go (old.engine.runs + 1) (window_after (state_of old) c))) a.0
+          ∙ (λ i. go (sym (ap (λ (h : SessionView J T). h.engine.runs) a.2) i + 1) (sym a.1.window i));
+      runs = let same = ap (λ (h : SessionView J T). h.engine.runs) a.2 in omega (arith, same);
       accepted = subst (λ (s : Slid). s.accepted ≤ accepted_of old + 1) (sym a.1.slid) (one_more (state_of old) c old.window.slid);
-      setting = ap (λ (h : SessionView). h.setting) a.2;
     }
     change_comes (Err (Halts.Script fault)) a same = (
       record {
         ends = λ go. windows go
-            ∙ ap (λ o. unless_refused o line (go (old.runs + 1) (window_after (state_of old) c))) a.1
+            ∙ ap (λ o. unless_refused o line (go (old.engine.runs + 1) (window_after (state_of old) c))) a.1
             ∙ ap (λ (e : Ending). ([], e)) a.2;
         unwritten = ap (λ (d : DeviceView). d.bytes) same;
       },
@@ -100,74 +102,96 @@ module _ {V : Type 0} (j : Meaning V) (old new : SessionView) (line : ℕ) (befo
     change_comes (Err Halts.Mem) a same = record {
       gain = [];
       written = unwritten before.bytes now.bytes (ap (λ (d : DeviceView). d.bytes) same);
-      prefix = λ go. ((on_command j (old.runs + 1) (state_of old) c line go).0, refl);
+      prefix = λ go. ((on_command j (old.engine.runs + 1) (state_of old) c line go).0, refl);
     }
 
   -- a prefix of the next piece was written
-  cut_in_piece : Told before.bytes now.bytes (GainsPrefix (next_piece j old)) → IsCut j old new Run line before.bytes now.bytes
+  cut_in_piece : Told before.bytes now.bytes (GainsPrefix (next_piece j view shaped old)) → IsCut j old new Run line before.bytes now.bytes
   cut_in_piece t =
-      let cut = gained (next_piece j old) before.bytes now.bytes t in
+      let cut = gained (next_piece j view shaped old) before.bytes now.bytes t in
       record {
         gain = cut.0;
         written = cut.2;
         prefix = λ go. (
-          cut.1.0 ++ (go (old.runs + 1 + 1) (state_of old)).0,
-          ap (λ (l : List ℕ). l ++ (go (old.runs + 1 + 1) (state_of old)).0) cut.1.1 ∙ append_assoc cut.0 cut.1.0 (go (old.runs + 1 + 1) (state_of old)).0,
+          cut.1.0 ++ (go (old.engine.runs + 1 + 1) (state_of old)).0,
+          ap (λ (l : List ℕ). l ++ (go (old.engine.runs + 1 + 1) (state_of old)).0) cut.1.1 ∙ append_assoc cut.0 cut.1.0 (go (old.engine.runs + 1 + 1) (state_of old)).0,
         );
       }
 
-  pub answer_comes : (result : Result (Unit {0}) Halt) → RunAnswered j old new before now result → ComesTo j old new Run line before now result
-  answer_comes (Ok done) a = record {
-    gain = next_piece j old;
-    written = a.1;
-    goes = λ go. ap (λ (h : SessionView). after_bytes (next_piece j old) (go (h.runs + 1) (state_of h))) (sym a.0);
-    runs = subst (λ (h : SessionView). h.runs ≤ old.runs + 1) (sym a.0) (omega arith);
-    accepted = subst (λ (h : SessionView). accepted_of h ≤ accepted_of old + 1) (sym a.0) (omega arith);
-    setting = ap (λ (h : SessionView). h.setting) a.0;
-  }
+  pub answer_comes : (result : Result (Unit {0}) Halt) → RunAnswered j view shaped old new before now result → ComesTo j old new Run line before now result
+  answer_comes (Ok done) a =
+      let runs = a.0.engine.runs in
+      let window = ap (λ (w : WindowView). w.window) a.0.window in
+      let slid = ap (λ (w : WindowView). w.slid.accepted) a.0.window in
+      record {
+        gain = next_piece j view shaped old;
+        written = a.1;
+        goes = λ go. λ i. after_bytes (next_piece j view shaped old) (go (sym runs i + 1) (sym window i));
+        runs = omega (arith, runs);
+        accepted = omega (arith, slid);
+      }
   answer_comes (Err (Halts.Script fault)) a = absurd a
   answer_comes (Err Halts.Read) a = absurd a
   answer_comes (Err Halts.Write) a = (cut_in_piece a.1, a.2)
   answer_comes (Err Halts.Mem) (inl a) = record {
     gain = [];
     written = unwritten before.bytes now.bytes a.1;
-    prefix = λ go. ((on_command j (old.runs + 1) (state_of old) Run line go).0, refl);
+    prefix = λ go. ((on_command j (old.engine.runs + 1) (state_of old) Run line go).0, refl);
   }
   answer_comes (Err Halts.Mem) (inr a) = cut_in_piece a.1
-
--- a command other than a run is the window's
-pub not_run : {V : Type 0} (j : Meaning V) (i : ℕ) (w : WindowState) (c : Command) (line : ℕ) (go : Going) → (c ≢ Run) → on_command j i w c line go ≡ unless_refused (refusal_of j.accepts w c) line (go i (window_after w c))
-not_run j i w (Bucket records) line go other = refl
-not_run j i w (Drop n) line go other = refl
-not_run j i w (Late place more) line go other = refl
-not_run j i w (File name) line go other = refl
-not_run j i w (Remove name) line go other = refl
-not_run j i w (Edit at del ins) line go other = refl
-not_run j i w (Load records) line go other = refl
-not_run j i w Run line go other = absurd (other refl)
 
 -- a sink that was left alone has as many faults
 as_before : (before now : DeviceView) → now ≡ before → before.faults ≤ now.faults
 as_before before now same = let faults = ap (λ (d : DeviceView). d.faults) same in omega (arith, faults)
 
 -- what each step comes to
-pub step_comes : {V : Type 0} (j : Meaning V) (old new : SessionView) (c : Command) (line : ℕ) (before now : DeviceView) (result : Result (Unit {0}) Halt) → Steps j old new c line before now result → ComesTo j old new c line before now result
-step_comes j old new (Bucket records) line before now result s = change_comes j old new line before now (Bucket records) (λ go. refl) result s.0 s.1
-step_comes j old new (Drop n) line before now result s = change_comes j old new line before now (Drop n) (λ go. refl) result s.0 s.1
-step_comes j old new (Late place more) line before now result s = change_comes j old new line before now (Late place more) (λ go. refl) result s.0 s.1
-step_comes j old new (File name) line before now result s = change_comes j old new line before now (File name) (λ go. refl) result s.0 s.1
-step_comes j old new (Remove name) line before now result s = change_comes j old new line before now (Remove name) (λ go. refl) result s.0 s.1
-step_comes j old new (Edit at del ins) line before now result s = change_comes j old new line before now (Edit at del ins) (λ go. refl) result s.0 s.1
-step_comes j old new (Load records) line before now result s = change_comes j old new line before now (Load records) (λ go. refl) result s.0 s.1
-step_comes j old new Run line before now result s = answer_comes j old new line before now result s.0
+pub step_comes : {J T V : Type 0} (j : Meaning V) (view : T → TreeView V) (shaped : Shape → Shift → Shape) (old new : SessionView J T) (c : Command) (line : ℕ) (before now : DeviceView) (result : Result (Unit {0}) Halt) → Steps j view shaped old new c line before now result → ComesTo j old new c line before now result
+step_comes j view shaped old new (Bucket records) line before now result s = change_comes j view shaped old new line before now (Bucket records) (λ go. refl) result s.0 s.1
+step_comes j view shaped old new (Drop n) line before now result s = change_comes j view shaped old new line before now (Drop n) (λ go. refl) result s.0 s.1
+step_comes j view shaped old new (Late place more) line before now result s = change_comes j view shaped old new line before now (Late place more) (λ go. refl) result s.0 s.1
+step_comes j view shaped old new (File name) line before now result s = change_comes j view shaped old new line before now (File name) (λ go. refl) result s.0 s.1
+step_comes j view shaped old new (Remove name) line before now result s = change_comes j view shaped old new line before now (Remove name) (λ go. refl) result s.0 s.1
+step_comes j view shaped old new (Edit at del ins) line before now result s = change_comes j view shaped old new line before now (Edit at del ins) (λ go. refl) result s.0 s.1
+step_comes j view shaped old new (Load records) line before now result s = change_comes j view shaped old new line before now (Load records) (λ go. refl) result s.0 s.1
+step_comes j view shaped old new Run line before now result s = answer_comes j view shaped old new line before now result s.0
 
 -- a step leaves the sink's count of faults, or raises it
-pub step_later : {V : Type 0} (j : Meaning V) (old new : SessionView) (c : Command) (line : ℕ) (before now : DeviceView) (result : Result (Unit {0}) Halt) → Steps j old new c line before now result → before.faults ≤ now.faults
-step_later j old new (Bucket records) line before now result s = as_before before now s.1
-step_later j old new (Drop n) line before now result s = as_before before now s.1
-step_later j old new (Late place more) line before now result s = as_before before now s.1
-step_later j old new (File name) line before now result s = as_before before now s.1
-step_later j old new (Remove name) line before now result s = as_before before now s.1
-step_later j old new (Edit at del ins) line before now result s = as_before before now s.1
-step_later j old new (Load records) line before now result s = as_before before now s.1
-step_later j old new Run line before now result s = s.1
+pub step_later : {J T V : Type 0} (j : Meaning V) (view : T → TreeView V) (shaped : Shape → Shift → Shape) (old new : SessionView J T) (c : Command) (line : ℕ) (before now : DeviceView) (result : Result (Unit {0}) Halt) → Steps j view shaped old new c line before now result → before.faults ≤ now.faults
+step_later j view shaped old new (Bucket records) line before now result s = as_before before now s.1
+step_later j view shaped old new (Drop n) line before now result s = as_before before now s.1
+step_later j view shaped old new (Late place more) line before now result s = as_before before now s.1
+step_later j view shaped old new (File name) line before now result s = as_before before now s.1
+step_later j view shaped old new (Remove name) line before now result s = as_before before now s.1
+step_later j view shaped old new (Edit at del ins) line before now result s = as_before before now s.1
+step_later j view shaped old new (Load records) line before now result s = as_before before now s.1
+step_later j view shaped old new Run line before now result s = s.1
+
+-- a step is a run, or a command that the window carries out or refuses
+abbrev pub StepKind : {J T V : Type 0} → Meaning V → (T → TreeView V) → (Shape → Shift → Shape) → SessionView J T → SessionView J T → Command → ℕ → DeviceView → DeviceView → Result (Unit {0}) Halt → Type 0
+StepKind j view shaped old new c line before now result = ((c ≡ Run) × RunAnswered j view shaped old new before now result) ⊎ ((c ≢ Run) × Changes j.accepts old new c line result)
+
+pub step_kind : {J T V : Type 0} (j : Meaning V) (view : T → TreeView V) (shaped : Shape → Shift → Shape) (old new : SessionView J T) (c : Command) (line : ℕ) (before now : DeviceView) (result : Result (Unit {0}) Halt) → Steps j view shaped old new c line before now result → StepKind j view shaped old new c line before now result
+step_kind j view shaped old new (Bucket records) line before now result s = inr (λ e. cc, s.0)
+step_kind j view shaped old new (Drop n) line before now result s = inr (λ e. cc, s.0)
+step_kind j view shaped old new (Late place more) line before now result s = inr (λ e. cc, s.0)
+step_kind j view shaped old new (File name) line before now result s = inr (λ e. cc, s.0)
+step_kind j view shaped old new (Remove name) line before now result s = inr (λ e. cc, s.0)
+step_kind j view shaped old new (Edit at del ins) line before now result s = inr (λ e. cc, s.0)
+step_kind j view shaped old new (Load records) line before now result s = inr (λ e. cc, s.0)
+step_kind j view shaped old new Run line before now result s = inl (refl, s.0)
+
+-- a command leaves the window's places
+pub places_stay : (w : WindowState) (c : Command) → (window_after w c).places ≡ w.places
+places_stay w (Bucket records) = refl
+places_stay w (Drop n) = refl
+places_stay w (Late place more) = refl
+places_stay w (File name) = refl
+places_stay w (Remove name) = refl
+places_stay w (Edit at del ins) = refl
+places_stay w (Load records) = refl
+places_stay w Run = refl
+
+-- a command that was carried out leaves the job and the settings
+pub engine_stays : {J T V : Type 0} (j : Meaning V) (view : T → TreeView V) (shaped : Shape → Shift → Shape) (old new : SessionView J T) (c : Command) (line : ℕ) (before now : DeviceView) (done : Unit {0}) → StepKind j view shaped old new c line before now (Ok done) → (c ≡ Run → IsSameEngine old.engine new.engine) → (new.engine.job ≡ old.engine.job) × (new.engine.settings ≡ old.engine.settings)
+engine_stays j view shaped old new c line before now done (inl a) same = ((same a.0).job, (same a.0).settings)
+engine_stays j view shaped old new c line before now done (inr a) same = (ap (λ h. h.engine.job) a.1.2, ap (λ h. h.engine.settings) a.1.2)

@@ -43,13 +43,13 @@ module _ {V : Type 0} (j : Meaning V) where
 
   -- serving stands between two commands, from the window `w` on: `gain` was written, and `past` are the bytes used since the
   -- reader was made as `fresh`
-  pub record Stands (w : WindowState) (most : ℕ) (fresh : Reading) (h : SessionView) (r : Reading) (first left before now : Option (List ℕ)) : Type 0 where
+  pub record Stands {J T : Type 0} (w : WindowState) (most : ℕ) (fresh : Reading) (h : SessionView J T) (r : Reading) (first left before now : Option (List ℕ)) : Type 0 where
     pub gain : List ℕ
     pub past : List ℕ
     pub written : Told before now (λ old new. new ≡ old ++ gain)
-    pub walks : Told first left (λ script after. outcome_of j w (commands most script) ≡ after_bytes gain (walk (h.runs + 1) (state_of h) (to_come r after)))
+    pub walks : Told first left (λ script after. outcome_of j w (commands most script) ≡ after_bytes gain (walk (h.engine.runs + 1) (state_of h) (to_come r after)))
     pub used : Uses fresh r first left past
-    pub taken : r.ended ≡ false → (full : Bool) (x : List ℕ) → walk 1 w (from_line full ACommand 1 (past ++ x)) ≡ after_bytes gain (walk (h.runs + 1) (state_of h) (from_line full ACommand (r.line + 1) x))
+    pub taken : r.ended ≡ false → (full : Bool) (x : List ℕ) → walk 1 w (from_line full ACommand 1 (past ++ x)) ≡ after_bytes gain (walk (h.engine.runs + 1) (state_of h) (from_line full ACommand (r.line + 1) x))
 
 -- two facts of told bytes
 told_both : (a b : Option (List ℕ)) (P Q : List ℕ → List ℕ → Type 0) → Told a b P → Told a b Q → Told a b (λ x y. P x y × Q x y)
@@ -63,26 +63,26 @@ not_before : (a b : Bool) → (a ≡ true → b ≡ true) → b ≡ false → a 
 not_before true b grows is = sym (grows refl) ∙ is
 not_before false b grows is = refl
 
-module _ {V : Type 0} (j : Meaning V) (w : WindowState) (most : ℕ) (fresh : Reading) (h : SessionView) (r : Reading) (first left before now : Option (List ℕ)) (s : Stands j w most fresh h r first left before now) where
+module _ {J T V : Type 0} (j : Meaning V) (w : WindowState) (most : ℕ) (fresh : Reading) (h : SessionView J T) (r : Reading) (first left before now : Option (List ℕ)) (s : Stands j w most fresh h r first left before now) where
   -- a command was read and carried out
-  module _ (new : SessionView) (next : Reading) (c : Command) (later : Option (List ℕ)) (wrote : Option (List ℕ)) where
+  module _ (new : SessionView J T) (next : Reading) (c : Command) (later : Option (List ℕ)) (wrote : Option (List ℕ)) where
     pub goes_on : Told left later (λ l m. NextTold (to_come r l) (to_come next m) next.last (Ok (Some c))) → (used : List ℕ) × Uses r next left later used × NextTaken r next used (Ok (Some c)) → Goes j h new c next.last now wrote → Stands j w most fresh new next first later before wrote
     goes_on told took g = record {
       gain = s.gain ++ g.gain;
       past = s.past ++ took.0;
       written = told_then before now wrote (λ old new. new ≡ old ++ s.gain) (λ old new. new ≡ old ++ g.gain) (λ old new. new ≡ old ++ (s.gain ++ g.gain))
           (λ x y z p q. q ∙ ap (λ (l : List ℕ). l ++ g.gain) p ∙ append_assoc x s.gain g.gain) s.written g.written;
-      walks = told_then first left later (λ script l. outcome_of j w (commands most script) ≡ after_bytes s.gain (walk j (h.runs + 1) (state_of h) (to_come r l))) (λ l m. NextTold (to_come r l) (to_come next m) next.last (Ok (Some c)))
-          (λ script m. outcome_of j w (commands most script) ≡ after_bytes (s.gain ++ g.gain) (walk j (new.runs + 1) (state_of new) (to_come next m)))
-          (λ x y z p q. p ∙ ap (after_bytes s.gain) (walk_command j (h.runs + 1) (state_of h) c next.last (to_come r y) (to_come next z) q ∙ g.goes (λ i v. walk j i v (to_come next z))) ∙ after_after s.gain g.gain (walk j (new.runs + 1) (state_of new) (to_come next z)))
+      walks = told_then first left later (λ script l. outcome_of j w (commands most script) ≡ after_bytes s.gain (walk j (h.engine.runs + 1) (state_of h) (to_come r l))) (λ l m. NextTold (to_come r l) (to_come next m) next.last (Ok (Some c)))
+          (λ script m. outcome_of j w (commands most script) ≡ after_bytes (s.gain ++ g.gain) (walk j (new.engine.runs + 1) (state_of new) (to_come next m)))
+          (λ x y z p q. p ∙ ap (after_bytes s.gain) (walk_command j (h.engine.runs + 1) (state_of h) c next.last (to_come r y) (to_come next z) q ∙ g.goes (λ i v. walk j i v (to_come next z))) ∙ after_after s.gain g.gain (walk j (new.engine.runs + 1) (state_of new) (to_come next z)))
           s.walks told;
       used = uses_then fresh r next first left later s.past took.0 s.used took.1;
       taken = λ going full x.
           let was = not_before r.ended next.ended (λ e. (took.1.bytes.stays e).0) going in
           ap (λ (b : List ℕ). walk j 1 w (from_line full ACommand 1 b)) (append_assoc s.past took.0 x)
           ∙ s.taken was full (took.0 ++ x)
-          ∙ ap (after_bytes s.gain) (walk_command j (h.runs + 1) (state_of h) c next.last (from_line full ACommand (r.line + 1) (took.0 ++ x)) (from_line full ACommand (next.line + 1) x) (took.2 full x (λ e. absurd (true_false (sym e ∙ going)))) ∙ g.goes (λ i v. walk j i v (from_line full ACommand (next.line + 1) x)))
-          ∙ after_after s.gain g.gain (walk j (new.runs + 1) (state_of new) (from_line full ACommand (next.line + 1) x));
+          ∙ ap (after_bytes s.gain) (walk_command j (h.engine.runs + 1) (state_of h) c next.last (from_line full ACommand (r.line + 1) (took.0 ++ x)) (from_line full ACommand (next.line + 1) x) (took.2 full x (λ e. absurd (true_false (sym e ∙ going)))) ∙ g.goes (λ i v. walk j i v (from_line full ACommand (next.line + 1) x)))
+          ∙ after_after s.gain g.gain (walk j (new.engine.runs + 1) (state_of new) (from_line full ACommand (next.line + 1) x));
     }
 
   -- the walk of the script goes on as the rest does, and ends so
@@ -100,15 +100,15 @@ module _ {V : Type 0} (j : Meaning V) (w : WindowState) (most : ℕ) (fresh : Re
     -- the script ended
     pub at_end : (next : Reading) → Told left later (λ l m. NextTold (to_come r l) (to_come next m) next.last (Ok None)) → (used : List ℕ) × Uses r next left later used × NextTaken r next used (Ok None) → Sound next later → Told first later (λ script after. Whole j w most script after before now)
     at_end next told took sound =
-        told_with first later _ _ (told_then first left later (λ script l. outcome_of j w (commands most script) ≡ after_bytes s.gain (walk j (h.runs + 1) (state_of h) (to_come r l))) (λ l m. NextTold (to_come r l) (to_come next m) next.last (Ok None)) (λ script m. outcome_of j w (commands most script) ≡ after_bytes s.gain ([], Done))
-        (λ x y z p q. p ∙ ap (λ (t : Script). after_bytes s.gain (walk j (h.runs + 1) (state_of h) t)) q.0) s.walks told)
+        told_with first later _ _ (told_then first left later (λ script l. outcome_of j w (commands most script) ≡ after_bytes s.gain (walk j (h.engine.runs + 1) (state_of h) (to_come r l))) (λ l m. NextTold (to_come r l) (to_come next m) next.last (Ok None)) (λ script m. outcome_of j w (commands most script) ≡ after_bytes s.gain ([], Done))
+        (λ x y z p q. p ∙ ap (λ (t : Script). after_bytes s.gain (walk j (h.engine.runs + 1) (state_of h) t)) q.0) s.walks told)
         (λ script after a b is. let both = all_written Done script is in (both.0, sound.empty took.2.0 after b, both.1))
 
     -- the script had a fault of form
     pub at_fault : (next : Reading) (fault : ScriptFault) → (fault.why ≢ Read) → (fault.why ≢ Mem) → Told left later (λ l m. NextTold (to_come r l) (to_come next m) next.last (Err fault)) → Told first later (λ script after. AtFault j w most fault.line fault.why script before now)
     at_fault next fault read mem told =
-        told_with first later _ _ (told_then first left later (λ script l. outcome_of j w (commands most script) ≡ after_bytes s.gain (walk j (h.runs + 1) (state_of h) (to_come r l))) (λ l m. NextTold (to_come r l) (to_come next m) next.last (Err fault)) (λ script m. outcome_of j w (commands most script) ≡ after_bytes s.gain ([], Faulty fault.line fault.why))
-        (λ x y z p q. p ∙ ap (λ (t : Script). after_bytes s.gain (walk j (h.runs + 1) (state_of h) t)) (the_fault (to_come r y) q.0)) s.walks told)
+        told_with first later _ _ (told_then first left later (λ script l. outcome_of j w (commands most script) ≡ after_bytes s.gain (walk j (h.engine.runs + 1) (state_of h) (to_come r l))) (λ l m. NextTold (to_come r l) (to_come next m) next.last (Err fault)) (λ script m. outcome_of j w (commands most script) ≡ after_bytes s.gain ([], Faulty fault.line fault.why))
+        (λ x y z p q. p ∙ ap (λ (t : Script). after_bytes s.gain (walk j (h.engine.runs + 1) (state_of h) t)) (the_fault (to_come r y) q.0)) s.walks told)
         (λ script after a b is. all_written (Faulty fault.line fault.why) script is)
       where
         the_fault : (t : Script) → (fault.why ≡ Mem) ⊎ (fault.why ≡ Read) ⊎ (t ≡ ([], Faulty fault.line fault.why)) → t ≡ ([], Faulty fault.line fault.why)
@@ -119,8 +119,8 @@ module _ {V : Type 0} (j : Meaning V) (w : WindowState) (most : ℕ) (fresh : Re
     -- what was written is a prefix of the output
     pub at_prefix : Told left later (λ l m. Unit {0}) → Told first later (λ script after. Told before now (GainsPrefix (output_of j w (commands most script))))
     at_prefix told =
-        told_with first later _ _ (told_then first left later (λ script l. outcome_of j w (commands most script) ≡ after_bytes s.gain (walk j (h.runs + 1) (state_of h) (to_come r l))) (λ l m. Unit {0}) (λ script m. IsPrefix s.gain (output_of j w (commands most script)))
-        (λ x y z p q. ((walk j (h.runs + 1) (state_of h) (to_come r y)).0, ap (λ (o : Outcome). o.0) p)) s.walks told)
+        told_with first later _ _ (told_then first left later (λ script l. outcome_of j w (commands most script) ≡ after_bytes s.gain (walk j (h.engine.runs + 1) (state_of h) (to_come r l))) (λ l m. Unit {0}) (λ script m. IsPrefix s.gain (output_of j w (commands most script)))
+        (λ x y z p q. ((walk j (h.engine.runs + 1) (state_of h) (to_come r y)).0, ap (λ (o : Outcome). o.0) p)) s.walks told)
         (λ script after a b prefix. told_with before now (λ old new. new ≡ old ++ s.gain) (GainsPrefix (output_of j w (commands most script))) s.written (λ old new c d wrote. (s.gain, prefix, wrote)))
 
     -- the source failed
@@ -139,8 +139,8 @@ module _ {V : Type 0} (j : Meaning V) (w : WindowState) (most : ℕ) (fresh : Re
         ∙ ap (λ (l : List ℕ). s.gain ++ l) (nothing (from_line false ACommand (r.line + 1) took.0) why.3)
         ∙ append-nil s.gain in
         let prefix : Told first later (λ script after. IsPrefix s.gain (output_of j w (commands most script))) =
-        told_then first left later (λ script l. outcome_of j w (commands most script) ≡ after_bytes s.gain (walk j (h.runs + 1) (state_of h) (to_come r l))) (λ l m. r.ahead ++ l ≡ took.0 ++ (next.ahead ++ m)) (λ script m. IsPrefix s.gain (output_of j w (commands most script)))
-        (λ x y z p q. ((walk j (h.runs + 1) (state_of h) (to_come r y)).0, ap (λ (o : Outcome). o.0) p)) s.walks took.1.bytes.bytes in
+        told_then first left later (λ script l. outcome_of j w (commands most script) ≡ after_bytes s.gain (walk j (h.engine.runs + 1) (state_of h) (to_come r l))) (λ l m. r.ahead ++ l ≡ took.0 ++ (next.ahead ++ m)) (λ script m. IsPrefix s.gain (output_of j w (commands most script)))
+        (λ x y z p q. ((walk j (h.engine.runs + 1) (state_of h) (to_come r y)).0, ap (λ (o : Outcome). o.0) p)) s.walks took.1.bytes.bytes in
         let whole : output_of j w (commands most (whole_lines (past ++ next.ahead))) ≡ s.gain = ap (λ (l : List ℕ). output_of j w (commands most l)) (whole_lines-used past next.ahead ends why.2) ∙ out in
         told_with first later _ _ (told_both first later (λ script after. fresh.ahead ++ script ≡ past ++ (next.ahead ++ after)) (λ script after. IsPrefix s.gain (output_of j w (commands most script))) all.bytes.bytes prefix)
         (λ script after a b both. record {
@@ -159,15 +159,15 @@ module _ {V : Type 0} (j : Meaning V) (w : WindowState) (most : ℕ) (fresh : Re
         the_read (inr (inl is)) = (is.1, is.2, is.3, is.4)
         the_read (inr (inr is)) = absurd (is.0 read)
 
-        nothing : (t : Script) → t.0 ≡ [] → (walk j (h.runs + 1) (state_of h) t).0 ≡ []
-        nothing t is = ap (λ (cs : List (Command × ℕ)). (outcome_from j (h.runs + 1) (state_of h) cs t.1).0) is
+        nothing : (t : Script) → t.0 ≡ [] → (walk j (h.engine.runs + 1) (state_of h) t).0 ≡ []
+        nothing t is = ap (λ (cs : List (Command × ℕ)). (outcome_from j (h.engine.runs + 1) (state_of h) cs t.1).0) is
 
   -- a command was read that the window refuses, or that was cut short
-  module _ (new : SessionView) (next : Reading) (c : Command) (later : Option (List ℕ)) (wrote : Option (List ℕ)) (told : Told left later (λ l m. NextTold (to_come r l) (to_come next m) next.last (Ok (Some c)))) where
-    reached : Told first later (λ script m. outcome_of j w (commands most script) ≡ after_bytes s.gain (on_command j (h.runs + 1) (state_of h) c next.last (λ i v. walk j i v (to_come next m))))
-    reached = told_then first left later (λ script l. outcome_of j w (commands most script) ≡ after_bytes s.gain (walk j (h.runs + 1) (state_of h) (to_come r l))) (λ l m. NextTold (to_come r l) (to_come next m) next.last (Ok (Some c)))
-        (λ script m. outcome_of j w (commands most script) ≡ after_bytes s.gain (on_command j (h.runs + 1) (state_of h) c next.last (λ i v. walk j i v (to_come next m))))
-        (λ x y z p q. p ∙ ap (after_bytes s.gain) (walk_command j (h.runs + 1) (state_of h) c next.last (to_come r y) (to_come next z) q)) s.walks told
+  module _ (new : SessionView J T) (next : Reading) (c : Command) (later : Option (List ℕ)) (wrote : Option (List ℕ)) (told : Told left later (λ l m. NextTold (to_come r l) (to_come next m) next.last (Ok (Some c)))) where
+    reached : Told first later (λ script m. outcome_of j w (commands most script) ≡ after_bytes s.gain (on_command j (h.engine.runs + 1) (state_of h) c next.last (λ i v. walk j i v (to_come next m))))
+    reached = told_then first left later (λ script l. outcome_of j w (commands most script) ≡ after_bytes s.gain (walk j (h.engine.runs + 1) (state_of h) (to_come r l))) (λ l m. NextTold (to_come r l) (to_come next m) next.last (Ok (Some c)))
+        (λ script m. outcome_of j w (commands most script) ≡ after_bytes s.gain (on_command j (h.engine.runs + 1) (state_of h) c next.last (λ i v. walk j i v (to_come next m))))
+        (λ x y z p q. p ∙ ap (after_bytes s.gain) (walk_command j (h.engine.runs + 1) (state_of h) c next.last (to_come r y) (to_come next z) q)) s.walks told
 
     -- the window refuses it
     pub at_refusal : (fault : ScriptFault) → IsRefused j h new c next.last now wrote fault → Told first later (λ script after. AtFault j w most fault.line fault.why script before wrote)
@@ -185,14 +185,14 @@ module _ {V : Type 0} (j : Meaning V) (w : WindowState) (most : ℕ) (fresh : Re
         s.written cut.written)
 
 -- serving begins
-module _ {V : Type 0} (j : Meaning V) (w : WindowState) (most : ℕ) (fresh : Reading) (h : SessionView) (left before : Option (List ℕ)) where
-  pub begins : h.runs ≡ 0 → (state_of h) ≡ w → (fresh.line ≡ 0) → ((script : List ℕ) → to_come fresh script ≡ commands most script) → Uses fresh fresh left left [] → Stands j w most fresh h fresh left left before before
+module _ {J T V : Type 0} (j : Meaning V) (w : WindowState) (most : ℕ) (fresh : Reading) (h : SessionView J T) (left before : Option (List ℕ)) where
+  pub begins : h.engine.runs ≡ 0 → (state_of h) ≡ w → (fresh.line ≡ 0) → ((script : List ℕ) → to_come fresh script ≡ commands most script) → Uses fresh fresh left left [] → Stands j w most fresh h fresh left left before before
   unfolding outcome_of
   begins zero window line all none = record {
     gain = [];
     past = [];
     written = told_same before (λ old new. new ≡ old ++ []) (λ x. sym (append-nil x));
-    walks = told_same left (λ script after. outcome_of j w (commands most script) ≡ after_bytes [] (walk j (h.runs + 1) (state_of h) (to_come fresh after)))
+    walks = told_same left (λ script after. outcome_of j w (commands most script) ≡ after_bytes [] (walk j (h.engine.runs + 1) (state_of h) (to_come fresh after)))
         (λ x. λ i. walk j (sym (ap (λ (n : ℕ). n + 1) zero) i) (sym window i) (sym (all x) i));
     used = none;
     taken = λ going full x. λ i. walk j (sym (ap (λ (n : ℕ). n + 1) zero) i) (sym window i) (from_line full ACommand (sym (ap (λ (n : ℕ). n + 1) line) i) x);
@@ -212,7 +212,7 @@ nothing_yet j w most left before = record {
 }
 
 -- The reader went on from `left` to `rest`, and before that from `first`; the sink held `before` first and holds `now`.
-module _ {V : Type 0} (j : Meaning V) (w : WindowState) (most : ℕ) (fresh : Reading) (h : SessionView) (r : Reading) (first left before now : DeviceView) (s : Stands j w most fresh h r first.bytes left.bytes before.bytes now.bytes) (next : Reading) (rest : DeviceView) where
+module _ {J T V : Type 0} (j : Meaning V) (w : WindowState) (most : ℕ) (fresh : Reading) (h : SessionView J T) (r : Reading) (first left before now : DeviceView) (s : Stands j w most fresh h r first.bytes left.bytes before.bytes now.bytes) (next : Reading) (rest : DeviceView) where
   -- the script ended
   pub at_close : Told left.bytes rest.bytes (λ l m. NextTold (to_come r l) (to_come next m) next.last (Ok None)) → (used : List ℕ) × Uses r next left.bytes rest.bytes used × NextTaken r next used (Ok None) → Sound next rest.bytes → EndsSo j w most first rest before now (Ok tt)
   at_close told took sound = at_end j w most fresh h r first.bytes left.bytes before.bytes now.bytes s rest.bytes next told took sound
@@ -231,7 +231,7 @@ module _ {V : Type 0} (j : Meaning V) (w : WindowState) (most : ℕ) (fresh : Re
   at_stop none room open' fault Halts.Mem is later failed told took = at_prefix j w most fresh h r first.bytes left.bytes before.bytes now.bytes s rest.bytes (told_with left.bytes rest.bytes _ (λ l m. Unit {0}) told (λ x y a b p. tt))
 
   -- a step stopped
-  pub at_halt : (new : SessionView) (c : Command) (wrote : DeviceView) (halt : Halt) → before.faults ≤ now.faults → Told left.bytes rest.bytes (λ l m. NextTold (to_come r l) (to_come next m) next.last (Ok (Some c))) → ComesTo j h new c next.last now wrote (Err halt) → EndsSo j w most first rest before wrote (Err halt)
+  pub at_halt : (new : SessionView J T) (c : Command) (wrote : DeviceView) (halt : Halt) → before.faults ≤ now.faults → Told left.bytes rest.bytes (λ l m. NextTold (to_come r l) (to_come next m) next.last (Ok (Some c))) → ComesTo j h new c next.last now wrote (Err halt) → EndsSo j w most first rest before wrote (Err halt)
   at_halt new c wrote (Halts.Script fault) later told comes = (at_refusal j w most fresh h r first.bytes left.bytes before.bytes now.bytes s new next c rest.bytes wrote.bytes told fault comes.0, comes.1)
   at_halt new c wrote Halts.Read later told comes = absurd comes
   at_halt new c wrote Halts.Write later told comes = (

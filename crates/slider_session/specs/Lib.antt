@@ -1,7 +1,7 @@
 pub mod Output
 pub mod Accepted
 pub mod Devices
-pub mod Meters
-pub mod Merging
+pub mod WorkLines
+pub mod Costs
 pub mod Calls
 pub mod Serving

@@ -37,15 +37,24 @@ ended_by line (Faults.BadRecord index) = Faulty (line + 1 + index) Whys.BadRecor
 ended_by line Faults.WindowLarge = Faulty line Whys.WindowLarge
 ended_by line Faults.Mem = Faulty line Whys.Mem
 
+-- Nothing behind a command that the window refuses, or else as many.
+abbrev pub none_if_refused : Option WindowFault → ℕ → ℕ
+none_if_refused None rest = rest
+none_if_refused (Some fault) rest = 0
+
 -- A command on a line that the window refuses, or else what comes behind it.
 abbrev pub unless_refused : Option WindowFault → ℕ → Outcome → Outcome
 unless_refused None line rest = rest
 unless_refused (Some fault) line rest = ([], ended_by line fault)
 
 module _ {V : Type 0} (j : Meaning V) where
-  -- What run i writes: its header, and the answer over the window's records.
+  -- What run i writes over these records: its header, and their answer.
+  abbrev pub piece_over : ℕ → List (List ℕ) → List ℕ
+  piece_over i records = header i (length (keys_of (pairs_of j.emits records))) ++ answer_of j.emits j.joined j.text records
+
+  -- What run i writes over a window: over its records.
   abbrev pub piece : ℕ → WindowState → List ℕ
-  piece i w = header i (length (keys_of (pairs_of j.emits (present w)))) ++ answer_of j.emits j.joined j.text (present w)
+  piece i w = piece_over i (present w)
 
   -- A command on a line, before run i over a window, where `go` says how the script goes on with the next run and the window.
   abbrev pub on_command : ℕ → WindowState → Command → ℕ → (ℕ → WindowState → Outcome) → Outcome
@@ -68,3 +77,17 @@ module _ {V : Type 0} (j : Meaning V) where
   -- How a script ends: done, or at its first fault.
   abbrev pub ending_of : WindowState → Script → Ending
   ending_of w script = (outcome_of w script).1
+
+  -- How many runs are answered from a command on, where `go` says how many are from the window behind it on.
+  abbrev pub runs_on : WindowState → Command → (WindowState → ℕ) → ℕ
+  runs_on w Run go = go w + 1
+  runs_on w c go = none_if_refused (refusal_of j.accepts w c) (go (window_after w c))
+
+  -- How many runs are answered of the commands one after the other.
+  abbrev pub runs_from : WindowState → List (Command × ℕ) → ℕ
+  runs_from w [] = 0
+  runs_from w (c ∷ cs) = runs_on w c.0 (λ window. runs_from window cs)
+
+  -- How many runs of a script are answered.
+  abbrev pub runs_answered : WindowState → Script → ℕ
+  runs_answered w script = runs_from w script.0

@@ -1,5 +1,6 @@
 -- What serving a whole script promises.
-use Rattle.std.specs.Prelude.{◌≡◌, ◌≤◌, ℕ, List, [], ◌++◌, Option, Result, Ok, Err}
+use Rattle.std.specs.Prelude.{◌≡◌, ◌≤◌, ℕ, Bool, List, [], ◌++◌, length, Option, Result, Ok, Err}
+use Rattle.std.specs.declared.option.Option.TheVariants.{Some}
 use Rattle.definitions.specs.Outside.{Rose, Told, IsPrefix, GainsPrefix}
 use Rattle.record_text.specs.declared.script_fault.ScriptFault.{ScriptFault}
 use Rattle.record_text.specs.declared.script_fault.Why.{Why}
@@ -9,11 +10,23 @@ use Rattle.record_text.specs.Script.{commands, Done, Faulty}
 use Rattle.window_manager.specs.Windows.{WindowState}
 use Rattle.window_manager.specs.declared.fault.WindowFault.{WindowFault}
 use Rattle.window_manager.specs.declared.fault.WindowFault.TheVariants as Faults
+use Rattle.job_laws.specs.declared.meter.Counts.{Counts}
 use Rattle.job_laws.specs.Meanings.{Meaning}
-use Rattle.slider_session.specs.Devices.{DeviceView}
-use Rattle.slider_session.specs.Output.{IsOfScript, ended_by, output_of, ending_of}
+use Rattle.job_laws.specs.Rows.{Row}
+use Rattle.slider_session.specs.Devices.{DeviceView, AreTried}
+use Rattle.slider_session.specs.Output.{IsOfScript, ended_by, output_of, ending_of, runs_answered}
+use Rattle.slider_session.specs.WorkLines.{work_of, work_between, all_work, IsMoreWork, asked_lines}
+use Rattle.slider_session.specs.declared.work.Work.{Work}
 use Rattle.slider_session.specs.declared.halt.Halt.{Halt}
 use Rattle.slider_session.specs.declared.halt.Halt.TheVariants as Halts
+
+-- The script was served to its end, or to its fault.
+abbrev pub IsServed : Result (Unit {0}) Halt → Type 0
+IsServed (Ok done) = Unit {0}
+IsServed (Err (Halts.Script fault)) = Unit {0}
+IsServed (Err Halts.Read) = ⊥
+IsServed (Err Halts.Write) = ⊥
+IsServed (Err Halts.Mem) = ⊥
 
 module _ {V : Type 0} (j : Meaning V) (w : WindowState) (most : ℕ) where
   -- The output of a script was written behind what the sink held before.
@@ -53,6 +66,17 @@ module _ {V : Type 0} (j : Meaning V) (w : WindowState) (most : ℕ) where
     pub ends : EndsSo left rest before now result
     pub source_later : left.faults ≤ rest.faults
     pub sink_later : before.faults ≤ now.faults
+
+  -- What was said on `err` for a script that a source had `left`: the work line of each run that was answered was tried,
+  -- where they are asked for. The work of these runs is no more than the meters rose by, and exactly so much where the
+  -- script was served to its end or its fault.
+  pub record ScriptSaid {M : Type 0} (counts : M → Counts) (asked : Bool) (left : Option (List ℕ)) (old new : Row M) (before now : DeviceView) (result : Result (Unit {0}) Halt) : Type 0 where
+    pub works : List Work
+    pub tried : AreTried (IsServed result) (asked_lines asked 1 works) before now
+    pub some : (script : List ℕ) → left ≡ Some script → length works ≤ runs_answered j w (commands most script)
+    pub all : IsServed result → (script : List ℕ) → left ≡ Some script → length works ≡ runs_answered j w (commands most script)
+    pub within : IsMoreWork (all_work works) (work_between (work_of counts old) (work_of counts new))
+    pub exact : IsServed result → all_work works ≡ work_between (work_of counts old) (work_of counts new)
 
 -- The halt that a reader's fault is.
 abbrev pub HaltIs : ScriptFault → Halt → Type 0

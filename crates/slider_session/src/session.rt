@@ -1,130 +1,189 @@
 //! One script's window and its runs.
-ghost use Rattle.std.specs.Prelude.{◌≡◌, ◌≢◌, ◌<◌, ◌≤◌, ◌^◌, IfOk};
+ghost use Rattle.std.specs.Prelude.{◌≡◌, ◌≢◌, ◌<◌, ◌≤◌, ◌+◌, ◌^◌, true, false, IfOk, IsErrOf};
 ghost use Rattle.record_text.specs.declared.command.Command.TheVariants.{Run};
-ghost use Rattle.job_laws.specs.Meanings.{meaning_at};
+ghost use Rattle.job_laws.specs.Meanings.{meaning_of};
+ghost use Rattle.marker_chunker.specs.Cuts.{joined};
 ghost use Rattle.window_manager.specs.Views.{no_leaves};
 ghost use Rattle.run_settings.specs.Settings.{AreWithin};
-ghost use Rattle.slider_session.specs.Devices.{sink_view};
-ghost use Rattle.slider_session.specs.Calls.{state_of, accepted_of, HasRoom, Changes, RunAnswered, Steps};
+ghost use Rattle.run_engine.specs.Engines.{IsNewEngine};
+ghost use Rattle.run_engine.specs.Runs.{RunWorked};
+ghost use Rattle.slider_session.specs.Devices.{sink_view, AreTried};
+ghost use Rattle.slider_session.specs.WorkLines.{work_of, work_between, work_line, IsMoreWork};
+ghost use Rattle.slider_session.specs.Output.{piece_over};
+ghost use Rattle.slider_session.specs.Calls.{accepted_of, HasRoom, Changes, RunAnswered, RunSaid, Steps, AnswerWritten, LineTried};
 ghost use Rattle.slider_session.specs.Serving.{RefusalIs};
-ghost use Rattle.slider_session.specs.Meters.{RunWorks};
 
-use crate::Halt;
 use crate::answering::piece_of;
+use crate::{Halt, Work};
 use job_laws::{Job, MeterRow};
-use record_text::{Command, Kind, ScriptFault, Why};
+use record_text::{Command, ScriptFault, Why};
+use run_engine::Engine;
 use run_settings::Settings;
-use slider_io::{Sink, WriteFault, put_all};
+use slider_io::{Gate, Sink, WriteFault, put_all};
 use std::alloc::{AllocError, Global};
 use std::marker::Model;
+use std::sync::Wait;
+use std::thread::Threads;
+use tree_laws::Tree;
 use window_manager::{Window, WindowFault};
 
-/// The window of one script, and how many runs were answered. A command of the window costs what the window takes for it;
-/// a run maps all records of the window and merges its leaves, each time anew.
+/// The window of one script, and the engine that answers its runs. A command of the window costs what the window takes for
+/// it; a run costs the leaves that changed since the last one, the paths above them, and one walk over the answer.
 #[derive(Drop)]
-pub struct Session<J: Job> {
-    job: J,
+pub struct Session<J: Job, T: Tree<J>> {
+    alloc: Global,
+    engine: Engine<J, T>,
     settings: Settings,
     window: Window,
-    runs: u64,
 }
 
-impl<J: Job> Model for Session<J> {
+impl<J: Job, T: Tree<J>> Model for Session<J, T> {
+    ghost use Rattle.std.specs.Prelude.{◌≡◌};
     ghost use Rattle.job_laws.specs.Meanings.{meaning_of};
-    ghost use Rattle.slider_session.specs.Accepted.{HoldsAccepted};
+    ghost use Rattle.slider_session.specs.Accepted.{IsSession};
     ghost use Rattle.slider_session.specs.Calls.{SessionView};
-    ghost use Rattle.run_settings.specs.Settings.{AreWithin};
 
-    ghost Value = { SessionView };
+    ghost Value = { SessionView J T };
 
-    ghost view = { λ s. record { setting = J.setting s.job; settings = s.settings; runs = s.runs; window = s.window } };
+    ghost view = { λ s. record { engine = s.engine; window = s.window } };
 
-    ghost invariant = { λ s. HoldsAccepted (meaning_of J.Job s.job) s.window.window × AreWithin s.settings };
+    ghost invariant = { λ s. IsSession (meaning_of J.Job s.engine.job) T.KIND s.engine s.window × (s.settings ≡ s.engine.settings) };
 }
 
-impl<J: Job> Session<J> {
-    /// A session over the empty window of a kind, before the first run.
-    pub fn new(
-        alloc: Global,
-        job: J,
-        settings: Settings,
-        kind: Kind,
-    ) -> Result<Session<J>, AllocError>
+impl<J: Job, T: Tree<J>> Session<J, T> {
+    /// A session over the empty window of the tree's kind, before the first run.
+    pub fn new(alloc: Global, job: J, settings: Settings) -> Result<Session<J, T>, AllocError>
         requires settings { AreWithin settings }
-        ensures { IfOk result (λ s. s ≡ record { setting = J.setting job; settings = settings; runs = 0; window = no_leaves kind settings.places }) }
+        ensures engine { IfOk result (λ s. IsNewEngine J.Job T.view T.pins 0 job settings s.engine) }
+        ensures window { IfOk result (λ s. s.window ≡ no_leaves T.KIND settings.places) }
     {
-        let window = Window::new(alloc, kind, settings.places);
+        let engine = Engine::new(alloc, job, settings)?;
+        let window = Window::new(alloc, T::KIND, settings.places);
         Ok(Session {
-            job,
+            alloc,
+            engine,
             settings,
             window,
-            runs: 0,
         })
     }
 
     /// Carries out the command that stands on a line of the script. A run writes its number, how many keys the window
-    /// has, and the lines of each key in byte order; any other command changes the window, or is refused on its line, and
-    /// touches neither the sink nor the meters.
-    pub fn step<K: Sink>(
+    /// has, and the lines of each key in byte order, and with `work` then tries its work line on `err`; any other command
+    /// changes the window, or is refused on its line, and touches neither the sinks nor the meters.
+    ///
+    /// # Errors
+    ///
+    /// The script's fault where the window refuses the command; a failed write, after which the run stands; want of memory,
+    /// after which the run stands or was not made.
+    pub fn step<K: Sink, E: Sink, G: Gate, R: Threads + Wait + Sync>(
         &mut self,
-        alloc: Global,
+        rt: &R,
         c: Command,
         line: u64,
         out: &mut K,
+        err: &mut E,
         meters: &mut MeterRow<J::Meter>,
+        gate: &G,
     ) -> Result<(), Halt>
+    where
+        J: Send + Sync,
+        J::Val: Send + Sync,
+        J::Meter: Send + Sync,
+        T: Send,
         requires { HasRoom self.old line }
-        ensures steps { Steps (meaning_at J.Job self.old.setting) self.old self.new c line (sink_view K.Sink out.old) (sink_view K.Sink out.new) result }
-        ensures untouched { c ≢ Run → (out.new ≡ out.old) × (meters.new ≡ meters.old) }
-        ensures works { RunWorks J.Meter.counts (state_of self.old) meters.old meters.new }
+        ensures steps { Steps (meaning_of J.Job self.old.engine.job) T.view T.shaped self.old self.new c line (sink_view K.Sink out.old) (sink_view K.Sink out.new) result }
+        ensures untouched { c ≢ Run → (out.new ≡ out.old) × (err.new ≡ err.old) × (meters.new ≡ meters.old) }
+        ensures worked { c ≡ Run → RunWorked J.Meter.counts (meaning_of J.Job self.old.engine.job) T.bound T.tight T.view self.old.window meters.old meters.new self.old.engine self.new.engine }
+        ensures said { c ≡ Run → RunSaid self.old.engine.settings.work (self.old.engine.runs + 1) (work_between (work_of J.Meter.counts meters.old) (work_of J.Meter.counts meters.new)) (sink_view E.Sink err.old) (sink_view E.Sink err.new) result }
+        ensures more { IsMoreWork (work_of J.Meter.counts meters.old) (work_of J.Meter.counts meters.new) }
+        ensures quiet { self.old.engine.settings.work ≡ false → err.new ≡ err.old }
     {
         match c {
-            Command::Run => self.answer(alloc, out, meters),
-            c => self.change(alloc, c, line),
+            Command::Run => self.answer(rt, out, err, meters, gate),
+            c => self.change(c, line),
         }
     }
 
     /// Has the window carry out a command.
-    fn change(&mut self, alloc: Global, c: Command, line: u64) -> Result<(), Halt>
+    fn change(&mut self, c: Command, line: u64) -> Result<(), Halt>
         requires line { line ≤ 2 ^ 62 }
         requires accepted { accepted_of self.old < 2 ^ 63 }
-        ensures changes { Changes (J.accepts self.old.setting) self.old self.new c line result }
+        ensures changes { Changes (J.accepts (J.setting self.old.engine.job)) self.old self.new c line result }
     {
-        match self.window.apply(alloc, c, &self.job) {
+        match self.window.apply(self.alloc, c, self.engine.job()) {
             Ok(()) => Ok(()),
             Err(refused) => Err(halt_of_refusal(line, refused)),
         }
     }
 
-    /// Answers the next run: all of its bytes are gathered, and then written.
-    fn answer<K: Sink>(
+    /// Answers the next run: all of its bytes are gathered, and then written; then its work line is tried.
+    fn answer<K: Sink, E: Sink, G: Gate, R: Threads + Wait + Sync>(
         &mut self,
-        alloc: Global,
+        rt: &R,
         out: &mut K,
+        err: &mut E,
         meters: &mut MeterRow<J::Meter>,
+        gate: &G,
     ) -> Result<(), Halt>
-        requires { self.old.runs < 2 ^ 63 }
-        ensures answered { RunAnswered (meaning_at J.Job self.old.setting) self.old self.new (sink_view K.Sink out.old) (sink_view K.Sink out.new) result }
+    where
+        J: Send + Sync,
+        J::Val: Send + Sync,
+        J::Meter: Send + Sync,
+        T: Send,
+        requires { self.old.engine.runs < 2 ^ 63 }
+        ensures answered { RunAnswered (meaning_of J.Job self.old.engine.job) T.view T.shaped self.old self.new (sink_view K.Sink out.old) (sink_view K.Sink out.new) result }
         ensures later { K.faults out.old ≤ K.faults out.new }
-        ensures works { RunWorks J.Meter.counts (state_of self.old) meters.old meters.new }
+        ensures worked { RunWorked J.Meter.counts (meaning_of J.Job self.old.engine.job) T.bound T.tight T.view self.old.window meters.old meters.new self.old.engine self.new.engine }
+        ensures said { RunSaid self.old.engine.settings.work (self.old.engine.runs + 1) (work_between (work_of J.Meter.counts meters.old) (work_of J.Meter.counts meters.new)) (sink_view E.Sink err.old) (sink_view E.Sink err.new) result }
+        ensures more { IsMoreWork (work_of J.Meter.counts meters.old) (work_of J.Meter.counts meters.new) }
+        ensures quiet { self.old.engine.settings.work ≡ false → err.new ≡ err.old }
     {
-        let run = self.runs + 1;
-        let bytes = match piece_of(
-            alloc,
-            &self.job,
-            self.settings.parts,
-            &self.window,
-            run,
-            meters,
-        ) {
+        let before = Work::of(meters);
+        let ran = self.engine.run(rt, &self.window, meters, gate);
+        let now = Work::of(meters);
+        match ran {
+            Ok(()) => (),
+            Err(_) => return Err(Halt::Mem),
+        }
+        self.window.run_done(self.alloc);
+        match self.write_answer(out) {
+            Ok(()) => (),
+            Err(halt) => return Err(halt),
+        }
+        if !self.settings.work {
+            return Ok(());
+        }
+        self.try_work(err, &before, &now)
+    }
+
+    /// Writes the answer of the last run.
+    fn write_answer<K: Sink>(&self, out: &mut K) -> Result<(), Halt>
+        ensures written { AnswerWritten (piece_over (meaning_of J.Job self.now.engine.job) self.now.engine.runs (joined self.now.engine.leaves)) (sink_view K.Sink out.old) (sink_view K.Sink out.new) result }
+    {
+        let run = self.engine.runs();
+        let bytes = match piece_of(self.alloc, &self.engine, self.settings.parts, run) {
             Ok(bytes) => bytes,
             Err(_) => return Err(Halt::Mem),
         };
-        self.runs = run;
-        self.window.run_done(alloc);
         match put_all(out, &bytes) {
             Ok(()) => Ok(()),
             Err(WriteFault::Failed) => Err(Halt::Write),
+            Err(WriteFault::Mem) => Err(Halt::Mem),
+        }
+    }
+
+    /// Tries the work line of the last run on `err`.
+    fn try_work<E: Sink>(&self, err: &mut E, before: &Work, now: &Work) -> Result<(), Halt>
+        requires { IsMoreWork before.now now.now }
+        ensures tried { LineTried (work_line self.now.engine.runs (work_between before.now now.now)) (sink_view E.Sink err.old) (sink_view E.Sink err.new) result }
+    {
+        let line = match now.line_since(self.alloc, self.engine.runs(), before) {
+            Ok(line) => line,
+            Err(_) => return Err(Halt::Mem),
+        };
+        match put_all(err, line.as_bytes()) {
+            Ok(()) => Ok(()),
+            Err(WriteFault::Failed) => Ok(()),
             Err(WriteFault::Mem) => Err(Halt::Mem),
         }
     }

@@ -2,7 +2,7 @@ use Rattle.std.proofs.Common.{◌++◌, take, sym, ap, ◌∙◌}
 use Rattle.definitions.specs.Answer.{pairs_of}
 use Rattle.definitions.proofs.AnswerLaws.{pairs_of-append}
 use Rattle.marker_chunker.specs.Cuts.{joined}
-use Rattle.slider_session.proofs.Tables.{joined_more}
+use Rattle.plain_program.proofs.WindowLaws.{joined_more}
 use Rattle.plain_program.proofs.pairs.plain_pairs.Goals as goal
 
 pub leaves-preserved : goal.leaves-preserved
