@@ -1,11 +1,9 @@
 -- What a step of the scan reads.
-use Rattle.std.proofs.Common.{◌≡◌, ◌∙◌, ◌&&◌, ◌||◌, ◌+◌, ◌<◌, ℕ, Bool, cond, true, false, zero, suc, refl, sym, ap, arith, List, [], ◌∷◌, ◌++◌, map, length, take, drop, get_or, Option, Some, None}
-use Rattle.std.specs.Prelude.{◌==◌, not, bytes_eq, is_some}
+use Rattle.std.proofs.Common.{◌≡◌, ◌∙◌, ◌||◌, ◌+◌, ◌<◌, ℕ, Bool, cond, true, false, zero, suc, refl, sym, ap, arith, [], ◌∷◌, length, take, drop, get_or, Some, None}
+use Rattle.std.specs.Prelude.{◌==◌}
 use Rattle.std.specs.List.{list_any, position_or_len}
-use Rattle.std.specs.Borrow.{Bor}
-use Rattle.std.proofs.lemmas.List.{map-append}
 use Rattle.std.proofs.lemmas.List.Sums.{position_or_len_is}
-use Rattle.program_words.specs.WellFormed.{Text, Item, is_option, is_met, name_and_value, with_item, begun, met_option}
+use Rattle.program_words.specs.WellFormed.{Text, name_and_value}
 
 not_true : (b : Bool) → (b ≡ true → ⊥) → b ≡ false
 not_true true wrong = absurd (wrong refl)
@@ -48,37 +46,3 @@ no_equals text none =
     let any : false ≡ list_any is_equals text = sym (none_at text none) in
     let whole : text ≡ take (position_or_len is_equals text) text = sym (take_whole text) ∙ ap (λ (n : ℕ). take n text) place in
     λ j. (whole j, cond (any j) (Some (drop (position_or_len is_equals text + 1) text)) None)
-
--- the names, as the code has them
-abbrev texts : List (Bor Text) → List Text
-texts = map {A = Bor (List ℕ)} {B = List ℕ} (λ n. n.now)
-
-pub any_met : (names : List (Bor Text)) (name : Text) → list_any (λ (n : Bor Text). bytes_eq n.now name) names ≡ is_met (texts names) name
-any_met [] name = refl
-any_met (n ∷ names) name = ap (λ b. bytes_eq n.now name || b) (any_met names name)
-
--- an option that may not stand
-pub meets_none : (met : List Text) (name : Text) (value : Option Text) (next : List Text → Option Text → Option (List Item)) → (is_option name && not (is_met met name)) ≡ false
-    → is_some (met_option met (Some (name, value)) next) ≡ false
-meets_none met name value next may = ap (λ b. is_some (cond b (begun met name value next) None)) may
-
--- one that has its value
-some_item : (name value : Text) (o : Option (List Item)) → is_some (with_item name value o) ≡ is_some o
-some_item name value None = refl
-some_item name value (Some items) = refl
-
-pub meets_whole : (names pushed : List (Bor Text)) (name : Bor Text) (value : Text) (next : List Text → Option Text → Option (List Item))
-    → (is_option name.now && not (is_met (texts names) name.now)) ≡ true → pushed ≡ names ++ name ∷ []
-    → is_some (met_option (texts names) (Some (name.now, Some value)) next) ≡ is_some (next (texts pushed) None)
-meets_whole names pushed name value next may is =
-    ap (λ b. is_some (cond b (begun (texts names) name.now (Some value) next) None)) may
-    ∙ some_item name.now value (next (texts names ++ name.now ∷ []) None)
-    ∙ ap (λ (l : List Text). is_some (next l None)) (sym (ap texts is ∙ map-append (λ (n : Bor Text). n.now) names (name ∷ [])))
-
--- one that waits for its value
-pub meets_first : (names pushed : List (Bor Text)) (name : Bor Text) (next : List Text → Option Text → Option (List Item))
-    → (is_option name.now && not (is_met (texts names) name.now)) ≡ true → pushed ≡ names ++ name ∷ []
-    → is_some (met_option (texts names) (Some (name.now, None)) next) ≡ is_some (next (texts pushed) (Some name.now))
-meets_first names pushed name next may is =
-    ap (λ b. is_some (cond b (begun (texts names) name.now None next) None)) may
-    ∙ ap (λ (l : List Text). is_some (next l (Some name.now))) (sym (ap texts is ∙ map-append (λ (n : Bor Text). n.now) names (name ∷ [])))

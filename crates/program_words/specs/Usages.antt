@@ -2,7 +2,7 @@
 use Rattle.std.specs.Prelude.{◌≡◌, List, ℕ, ◌++◌, codes, Result, Err}
 use Rattle.program_words.specs.declared.plan.Plan.{Plan}
 use Rattle.program_words.specs.declared.plan.Field.{Field}
-use Rattle.program_words.specs.declared.plan.Field.TheVariants.{Words, Job, K, Tree, Buckets, Parts, Gen}
+use Rattle.program_words.specs.declared.plan.Field.TheVariants.{Words, Job, K, Tree, Buckets, Parts, Workers, Shards, Keep, Gen}
 use Rattle.program_words.specs.declared.usage.WordsFault.{WordsFault}
 use Rattle.program_words.specs.declared.usage.WordsFault.TheVariants.{Usage, Mem}
 
@@ -14,6 +14,9 @@ usage_word K = codes "k"
 usage_word Tree = codes "tree"
 usage_word Buckets = codes "buckets"
 usage_word Parts = codes "parts"
+usage_word Workers = codes "workers"
+usage_word Shards = codes "shards"
+usage_word Keep = codes "keep"
 usage_word Gen = codes "gen"
 
 -- The line for a field.

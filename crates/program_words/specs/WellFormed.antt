@@ -1,5 +1,5 @@
 -- When the words of the command line are well formed, and which options they give.
-use Rattle.std.specs.Prelude.{ℕ, ◌-◌, ◌==◌, Bool, false, true, not, ◌&&◌, ◌||◌, if◌then◌else◌, List, [], ◌∷◌, ◌++◌, length, codes, bytes_eq, Option, option_map, slice_get, find}
+use Rattle.std.specs.Prelude.{ℕ, ◌-◌, ◌==◌, Bool, false, true, not, ◌&&◌, ◌||◌, if◌then◌else◌, List, [], ◌∷◌, ◌++◌, length, codes, bytes_eq, Option, option_map, option_and_then, is_none, slice_get, find}
 use Rattle.std.specs.List.{list_any, before_first, after_first}
 use Rattle.std.specs.Option.{option_map_or}
 use Rattle.std.specs.declared.option.Option.TheVariants.{Some, None}
@@ -9,13 +9,22 @@ use Rattle.std.specs.Borrow.{Bor}
 abbrev pub Text : Type 0
 Text = List ℕ
 
--- The names of the options, each of which takes a value.
+-- The names of the options that take a value.
 abbrev pub option_names : List Text
-option_names = codes "job" ∷ codes "k" ∷ codes "tree" ∷ codes "buckets" ∷ codes "parts" ∷ codes "gen" ∷ []
+option_names =
+    codes "job" ∷ codes "k" ∷ codes "tree" ∷ codes "buckets" ∷ codes "parts" ∷ codes "workers" ∷ codes "shards" ∷ codes "keep" ∷ codes "gen" ∷ []
 
--- Whether these bytes are the name of an option, whole.
+-- The names of the flags, which take none.
+abbrev pub flag_names : List Text
+flag_names = codes "work" ∷ []
+
+-- Whether these bytes are the name of an option that takes a value, whole.
 unfoldable pub is_option : Text → Bool
 is_option name = list_any (λ n. bytes_eq name n) option_names
+
+-- Whether these bytes are the name of a flag, whole.
+unfoldable pub is_flag : Text → Bool
+is_flag name = list_any (λ n. bytes_eq name n) flag_names
 
 -- A word stands nowhere where it is empty, `-` or `--`, or ends in `=` (61).
 abbrev pub is_stray : Text → Bool
@@ -42,43 +51,52 @@ name_and_value text = (
 abbrev pub option_in : Text → Option (Text × Option Text)
 option_in word = option_map name_and_value (behind_dashes word)
 
--- An option and its value.
+-- An option and its value, or a flag, which has none.
 abbrev pub Item : Type 0
-Item = Text × Text
+Item = Text × Option Text
 
--- One option more, the first.
-abbrev pub with_item : Text → Text → Option (List Item) → Option (List Item)
+-- One item more, the first.
+abbrev pub with_item : Text → Option Text → Option (List Item) → Option (List Item)
 with_item name value = option_map (λ items. (name, value) ∷ items)
 
 -- The name was met before.
 abbrev pub is_met : List Text → Text → Bool
 is_met met name = list_any (λ n. bytes_eq n name) met
 
--- An option that has its value in the same word, or waits for the next one; `next` reads the words behind.
-abbrev pub begun : List Text → Text → Option Text → (List Text → Option Text → Option (List Item)) → Option (List Item)
-begun met name None next = next (met ++ name ∷ []) (Some name)
-begun met name (Some value) next = with_item name value (next (met ++ name ∷ []) None)
+-- The name is that of a flag, with no value in its word, or that of an option.
+abbrev pub may_stand : Text → Option Text → Bool
+may_stand name value = if is_flag name then is_none value else is_option name
 
--- A word where none waits for its value: it is an option that was not met before.
+-- An option that has its value in the same word, one that waits for the next word, or a flag; `next` reads the words behind.
+abbrev pub begun : List Text → Text → Option Text → (List Text → Option Text → Option (List Item)) → Option (List Item)
+begun met name (Some value) next = with_item name (Some value) (next (met ++ name ∷ []) None)
+begun met name None next = if is_flag name then with_item name None (next (met ++ name ∷ []) None) else next (met ++ name ∷ []) (Some name)
+
+-- A word where none waits for its value: it is an option or a flag that was not met before.
 abbrev pub met_option : List Text → Option (Text × Option Text) → (List Text → Option Text → Option (List Item)) → Option (List Item)
 met_option met None next = None
-met_option met (Some option) next = if is_option option.0 && not (is_met met option.0) then begun met option.0 option.1 next else None
+met_option met (Some option) next = if may_stand option.0 option.1 && not (is_met met option.0) then begun met option.0 option.1 next else None
 
--- The options that the words give, where these names were met before them and this one waits for its value, or none where
--- the words are not well formed.
+-- The options and flags that the words give, where these names were met before them and this one waits for its value, or none
+-- where the words are not well formed.
 abbrev pub scan : List Text → Option Text → List Text → Option (List Item)
 scan met None [] = Some []
 scan met (Some name) [] = None
 scan met None (word ∷ rest) = if is_stray word then None else met_option met (option_in word) (λ more waiting. scan more waiting rest)
-scan met (Some name) (word ∷ rest) = if is_stray word || begins_with_dash word then None else with_item name word (scan met None rest)
+scan met (Some name) (word ∷ rest) = if is_stray word || begins_with_dash word then None else with_item name (Some word) (scan met None rest)
 
--- The options that the words give, each with its value, in the words' order; none where the words are not well formed.
+-- The options that the words give, each with its value, and the flags, in the words' order; none where the words are not well
+-- formed.
 unfoldable pub items_of : List Text → Option (List Item)
 items_of words = scan [] None words
 
 -- The value of an option.
 abbrev pub value_of : List Item → Text → Option Text
-value_of items name = option_map (λ item. item.1) (find (λ item. bytes_eq item.0 name) items)
+value_of items name = option_and_then (λ item. item.1) (find (λ item. bytes_eq item.0 name) items)
+
+-- A flag stands among the items.
+abbrev pub is_given : List Item → Text → Bool
+is_given items name = list_any (λ item. bytes_eq item.0 name) items
 
 -- A name and its value, as the code has them.
 abbrev pub as_texts : Bor Text × Option (Bor Text) → Text × Option Text

@@ -1,10 +1,11 @@
 //! What the words of the command line ask for.
 ghost use Rattle.std.specs.Prelude.{◌≡◌, ◌≤◌, IfOk, IfSome, option_map};
-ghost use Rattle.program_words.specs.Plans.{job_named, tree_named, number_within, number_or, seed_or_none, plan_by, values_as_text, kind_of, IsWithin};
+ghost use Rattle.run_settings.specs.Settings.{AreWithin};
+ghost use Rattle.program_words.specs.Plans.{job_named, tree_named, number_within, number_or, seed_or_none, settings_by, joins_out_of_order, plan_by, values_as_text, kind_of, IsWithin};
 
 use definitions::{MOST_MEMBERS, MOST_PARTS, MOST_PLACES};
 use record_text::{Kind, parse_number};
-use run_settings::Settings;
+use run_settings::{MOST_KEEP, MOST_SHARDS, MOST_WORKERS, Settings};
 
 /// The name of a job.
 #[derive(Clone, Copy, Debug, PartialEq, Eq)]
@@ -64,10 +65,13 @@ pub enum Field {
     Tree,
     Buckets,
     Parts,
+    Workers,
+    Shards,
+    Keep,
     Gen,
 }
 
-/// The values that the words give, each as it stands there.
+/// The values that the words give, each as it stands there, and whether they have the flag.
 #[derive(Clone, Copy, Debug, PartialEq, Eq)]
 pub struct Values<'a> {
     pub job: Option<&'a str>,
@@ -75,7 +79,11 @@ pub struct Values<'a> {
     pub tree: Option<&'a str>,
     pub buckets: Option<&'a str>,
     pub parts: Option<&'a str>,
+    pub workers: Option<&'a str>,
+    pub shards: Option<&'a str>,
+    pub keep: Option<&'a str>,
     pub generate: Option<&'a str>,
+    pub work: bool,
 }
 
 /// The job of a name.
@@ -104,25 +112,25 @@ fn tree_named(name: &str) -> Option<TreeName>
     }
 }
 
-/// The number from 1 to `most` that a text is.
-fn number_within(most: u32, text: &str) -> Option<u32>
-    ensures number { result ≡ number_within most text.now }
-    ensures within { IfSome result (λ n. (1 ≤ n) × (n ≤ most)) }
+/// The number from `least` to `most` that a text is.
+fn number_within(least: u32, most: u32, text: &str) -> Option<u32>
+    ensures number { result ≡ number_within least most text.now }
+    ensures within { IfSome result (λ n. (least ≤ n) × (n ≤ most)) }
 {
     match parse_number(text.as_bytes()) {
-        Some(n) if n >= 1 && n <= most => Some(n),
+        Some(n) if n >= least && n <= most => Some(n),
         _ => None,
     }
 }
 
-/// The number from 1 to `most` that a value is, or `default` where none is given.
-fn number_or(default: u32, most: u32, value: Option<&str>) -> Option<u32>
-    requires { (1 ≤ default) × (default ≤ most) }
-    ensures number { result ≡ number_or default most (option_map (λ text. text.now) value.entry) }
-    ensures within { IfSome result (λ n. (1 ≤ n) × (n ≤ most)) }
+/// The number from `least` to `most` that a value is, or `default` where none is given.
+fn number_or(default: u32, least: u32, most: u32, value: Option<&str>) -> Option<u32>
+    requires { (least ≤ default) × (default ≤ most) }
+    ensures number { result ≡ number_or default least most (option_map (λ text. text.now) value.entry) }
+    ensures within { IfSome result (λ n. (least ≤ n) × (n ≤ most)) }
 {
     match value {
-        Some(text) => number_within(most, text),
+        Some(text) => number_within(least, most, text),
         None => Some(default),
     }
 }
@@ -137,9 +145,47 @@ fn seed_or_none(value: Option<&str>) -> Option<Option<u32>>
     }
 }
 
+/// What the values say of how the script is worked, or the first of them that is refused: no number, or past its limits.
+fn settings_by(values: &Values<'_>) -> Result<Settings, Field>
+    ensures settings { result ≡ settings_by (values_as_text values.now) }
+    ensures within { IfOk result AreWithin }
+{
+    let Some(places) = number_or(24, 1, MOST_PLACES, values.buckets) else {
+        return Err(Field::Buckets);
+    };
+    let Some(parts) = number_or(1, 1, MOST_PARTS, values.parts) else {
+        return Err(Field::Parts);
+    };
+    let Some(workers) = number_or(1, 1, MOST_WORKERS, values.workers) else {
+        return Err(Field::Workers);
+    };
+    let Some(shards) = number_or(1, 1, MOST_SHARDS, values.shards) else {
+        return Err(Field::Shards);
+    };
+    let Some(keep) = number_or(1, 0, MOST_KEEP, values.keep) else {
+        return Err(Field::Keep);
+    };
+    Ok(Settings {
+        parts,
+        workers,
+        shards,
+        keep,
+        places,
+        work: values.work,
+        ..Settings::default()
+    })
+}
+
+/// Whether the tree joins in another order than the job needs: `latest` takes the last value in the window's order, and the
+/// root of `rotating` joins the buckets in the order of their places.
+fn joins_out_of_order(job: JobName, tree: TreeName) -> bool
+    ensures { result ≡ joins_out_of_order job tree }
+{
+    job == JobName::Latest && tree == TreeName::Rotating
+}
+
 /// What the values ask for, or the first of them that is refused: one that must be given and is not, one that is not of
-/// its table, no number, or past its limits. Last, the job `latest` refuses the tree `rotating`, whose root joins the
-/// buckets in the order of their places.
+/// its table, no number, or past its limits. Last, a tree is refused that joins in another order than the job needs.
 pub fn plan_by(values: Values<'_>) -> Result<Plan, Field>
     ensures plan { result ≡ plan_by (values_as_text values.entry) }
     ensures within { IfOk result IsWithin }
@@ -150,7 +196,7 @@ pub fn plan_by(values: Values<'_>) -> Result<Plan, Field>
     let Some(job) = job_named(name) else {
         return Err(Field::Job);
     };
-    let Some(k) = number_or(10, MOST_MEMBERS, values.k) else {
+    let Some(k) = number_or(10, 1, MOST_MEMBERS, values.k) else {
         return Err(Field::K);
     };
     let Some(name) = values.tree else {
@@ -159,27 +205,21 @@ pub fn plan_by(values: Values<'_>) -> Result<Plan, Field>
     let Some(tree) = tree_named(name) else {
         return Err(Field::Tree);
     };
-    let Some(places) = number_or(24, MOST_PLACES, values.buckets) else {
-        return Err(Field::Buckets);
-    };
-    let Some(parts) = number_or(1, MOST_PARTS, values.parts) else {
-        return Err(Field::Parts);
+    let settings = match settings_by(&values) {
+        Ok(settings) => settings,
+        Err(field) => return Err(field),
     };
     let Some(seed) = seed_or_none(values.generate) else {
         return Err(Field::Gen);
     };
-    if job == JobName::Latest && tree == TreeName::Rotating {
+    if joins_out_of_order(job, tree) {
         return Err(Field::Tree);
     }
     Ok(Plan {
         job,
         k,
         tree,
-        settings: Settings {
-            parts,
-            places,
-            ..Settings::default()
-        },
+        settings,
         seed,
         then: false,
     })

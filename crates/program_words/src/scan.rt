@@ -1,6 +1,6 @@
 //! Whether the words of the command line are well formed.
-ghost use Rattle.std.specs.Prelude.{◌≡◌, ◌&&◌, not, List, ℕ, ◌∷◌, IfOk, Some, map, is_some, option_map, string_bytes};
-ghost use Rattle.program_words.specs.WellFormed.{is_stray, begins_with_dash, is_option, is_met, behind_dashes, name_and_value, as_texts, met_option, scan, items_of};
+ghost use Rattle.std.specs.Prelude.{◌≡◌, ◌&&◌, List, ℕ, ◌∷◌, IfOk, Some, map, is_some, option_map, string_bytes};
+ghost use Rattle.program_words.specs.WellFormed.{is_stray, begins_with_dash, is_option, is_flag, may_stand, is_met, behind_dashes, name_and_value, as_texts, met_option, scan, items_of};
 
 use memchr::memchr;
 use std::alloc::{AllocError, Global};
@@ -25,7 +25,7 @@ fn begins_with_dash(word: &[u8]) -> bool
     }
 }
 
-/// Whether a name is that of an option. Names are not shortened.
+/// Whether a name is that of an option that takes a value. Names are not shortened.
 #[tactic(auto, unfolding(crate::specs::WellFormed::is_option))]
 fn is_option(name: &[u8]) -> bool
     ensures { result ≡ is_option name.now }
@@ -35,7 +35,29 @@ fn is_option(name: &[u8]) -> bool
         || name == b"tree".as_slice()
         || name == b"buckets".as_slice()
         || name == b"parts".as_slice()
+        || name == b"workers".as_slice()
+        || name == b"shards".as_slice()
+        || name == b"keep".as_slice()
         || name == b"gen".as_slice()
+}
+
+/// Whether a name is that of a flag, which takes no value.
+#[tactic(auto, unfolding(crate::specs::WellFormed::is_flag))]
+fn is_flag(name: &[u8]) -> bool
+    ensures { result ≡ is_flag name.now }
+{
+    name == b"work".as_slice()
+}
+
+/// Whether a name is that of a flag, with no value in its word, or that of an option.
+fn may_stand(name: &[u8], value: Option<&[u8]>) -> bool
+    ensures { result ≡ may_stand name.now (option_map (λ n. n.now) value.entry) }
+{
+    if is_flag(name) {
+        value.is_none()
+    } else {
+        is_option(name)
+    }
 }
 
 /// What stands behind the two dashes that a word begins with.
@@ -79,33 +101,27 @@ fn is_met(names: &[&[u8]], name: &[u8]) -> bool
 /// What was read of the words.
 #[derive(Drop)]
 struct Scan<'a> {
-    /// The names of the options that were met, in their order.
+    /// The names of the options and flags that were met, in their order.
     names: Vec<&'a [u8]>,
     /// The option whose value the next word is.
     waiting: Option<&'a [u8]>,
 }
 
 impl<'a> Scan<'a> {
-    /// Whether a name is that of an option that was not met.
-    fn is_new(&self, name: &[u8]) -> bool
-        ensures { result ≡ (is_option name.now && not (is_met (map (λ n. n.now) self.now.names.items) name.now)) }
-    {
-        is_option(name) && !is_met(self.names.as_slice(), name)
-    }
-
-    /// Meets an option, which waits for its value where it has none, and answers whether it may stand here.
+    /// Meets an option, which waits for its value where it has none, or a flag, and answers whether it may stand here.
     fn meet(&mut self, name: &'a [u8], value: Option<&'a [u8]>) -> Result<bool, AllocError>
         ensures { IfOk result (λ may. (rest : List (List ℕ)) →
             is_some (met_option (map (λ n. n.now) self.old.names.items) (Some (as_texts (name.entry, value.entry))) (λ met waiting. scan met waiting rest))
             ≡ (may && is_some (scan (map (λ n. n.now) self.new.names.items) (option_map (λ n. n.now) self.new.waiting) rest))) }
     {
-        if !self.is_new(name) {
+        if !may_stand(name, value) || is_met(self.names.as_slice(), name) {
             return Ok(false);
         }
         self.names.push(name)?;
-        match value {
-            Some(_) => self.waiting = None,
-            None => self.waiting = Some(name),
+        if value.is_some() || is_flag(name) {
+            self.waiting = None;
+        } else {
+            self.waiting = Some(name);
         }
         Ok(true)
     }
@@ -133,7 +149,8 @@ impl<'a> Scan<'a> {
     }
 }
 
-/// Whether the words are a sequence of options with their values, `--NAME=VALUE` or `--NAME VALUE`, each at most once.
+/// Whether the words are a sequence of options with their values, `--NAME=VALUE` or `--NAME VALUE`, and of flags, `--NAME`,
+/// each at most once.
 pub fn are_well_formed(alloc: Global, words: &[String]) -> Result<bool, AllocError>
     ensures { IfOk result (λ are. are ≡ is_some (items_of (map string_bytes words.now))) }
 {

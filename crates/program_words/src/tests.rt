@@ -197,6 +197,28 @@ fn numbers_stand_within_their_limits(rt: HostRuntime) -> Result<(), AllocError> 
         assert!(rt; refuses(alloc, line, b"usage parts\n")?);
     }
     for line in [
+        "--job count --tree folding --workers 0",
+        "--job count --tree folding --workers=17",
+        "--job count --tree folding --workers two",
+    ] {
+        assert!(rt; refuses(alloc, line, b"usage workers\n")?);
+    }
+    for line in [
+        "--job count --tree folding --shards 0",
+        "--job count --tree folding --shards=9",
+        "--job count --tree folding --shards 1.0",
+    ] {
+        assert!(rt; refuses(alloc, line, b"usage shards\n")?);
+    }
+    for line in [
+        "--job count --tree folding --keep 1001",
+        "--job count --tree folding --keep=00",
+        "--job count --tree folding --keep=-1",
+        "--job count --tree folding --keep 4294967296",
+    ] {
+        assert!(rt; refuses(alloc, line, b"usage keep\n")?);
+    }
+    for line in [
         "--job count --tree folding --gen 4294967296",
         "--job count --tree folding --gen=-1",
         "--job count --tree folding --gen 00",
@@ -229,6 +251,81 @@ fn parts_and_seeds_stand_in_the_plan(rt: HostRuntime) -> Result<(), AllocError> 
     ] {
         assert!(rt; parts_and_seed(alloc, line)? == Some((parts, seed)));
     }
+    Ok(())
+}
+
+/// The workers, shards and runs kept that the words of a line ask for, and whether they ask for the work.
+fn ways_of_working(alloc: Global, line: &str) -> Result<Option<(u32, u32, u32, bool)>, AllocError> {
+    match read(alloc, line)? {
+        Ok(plan) => {
+            let Settings {
+                workers,
+                shards,
+                keep,
+                work,
+                ..
+            } = plan.settings;
+            Ok(Some((workers, shards, keep, work)))
+        }
+        Err(_) => Ok(None),
+    }
+}
+
+#[test]
+fn ways_of_working_stand_in_the_plan(rt: HostRuntime) -> Result<(), AllocError> {
+    let alloc = rt.alloc();
+    for (line, ways) in [
+        ("--job count --tree folding", (1, 1, 1, false)),
+        ("--job count --tree folding --workers 1", (1, 1, 1, false)),
+        ("--job count --tree folding --workers=16", (16, 1, 1, false)),
+        ("--job count --tree folding --shards=1", (1, 1, 1, false)),
+        ("--job count --tree folding --shards 8", (1, 8, 1, false)),
+        ("--job count --tree folding --keep 0", (1, 1, 0, false)),
+        ("--job count --tree folding --keep=1", (1, 1, 1, false)),
+        (
+            "--keep 1000 --job count --tree folding",
+            (1, 1, 1000, false),
+        ),
+        (
+            "--keep=2 --job count --shards 3 --tree folding --workers 4 --work",
+            (4, 3, 2, true),
+        ),
+    ] {
+        assert!(rt; ways_of_working(alloc, line)? == Some(ways));
+    }
+    Ok(())
+}
+
+#[test]
+fn the_flag_stands_anywhere_once_and_alone(rt: HostRuntime) -> Result<(), AllocError> {
+    let alloc = rt.alloc();
+    for line in [
+        "--work --job count --tree folding",
+        "--job count --work --tree folding",
+        "--job=count --work --tree=folding",
+        "--job count --tree folding --work",
+    ] {
+        assert!(rt; ways_of_working(alloc, line)? == Some((1, 1, 1, true)));
+    }
+    for line in [
+        "--work --work --job count --tree folding",
+        "--work --job count --tree folding --work",
+        "--work=1 --job count --tree folding",
+        "--job count --tree folding --work=true",
+        "--job count --tree folding --work=",
+        "--job count --tree folding --work 1",
+        "--job count --tree folding --work true",
+        "--job --work count --tree folding",
+        "--job count --tree folding --k --work",
+        "--job count --tree folding -work",
+        "--job count --tree folding --Work",
+        "--job count --tree folding --wor",
+    ] {
+        assert!(rt; refuses(alloc, line, b"usage words\n")?);
+    }
+    let value = "--job=--work --tree folding";
+    assert!(rt; refuses(alloc, value, b"usage job\n")?);
+    assert!(rt; refuses(alloc, "--work", b"usage job\n")?);
     Ok(())
 }
 
@@ -280,8 +377,15 @@ fn words_that_are_not_well_formed(rt: HostRuntime) -> Result<(), AllocError> {
         "-job count --tree folding",
         "--Job count --tree folding",
         "---job count --tree folding",
-        "--job count --tree folding --work",
-        "--job count --tree folding --workers 2",
+        "--job count --tree folding --worker 2",
+        "--job count --tree folding --works",
+        "--job count --tree folding --split",
+        "--job count --tree folding --workers",
+        "--job count --tree folding --shards --keep 1",
+        "--job count --tree folding --keep=",
+        "--keep 1 --job count --tree folding --keep=1",
+        "--shards=2 --shards=2 --job count --tree folding",
+        "--workers 1 --workers 1 --job count --tree folding",
         "--job count --tree folding --gen=",
         "--gen 1 --job count --tree folding --gen=1",
         "--job count --tree folding --seed 1",
@@ -318,8 +422,28 @@ fn the_first_refusal_in_order_is_said(rt: HostRuntime) -> Result<(), AllocError>
             b"usage buckets\n".as_slice(),
         ),
         (
-            "--gen x --parts 0 --tree random --job count",
+            "--gen x --keep x --shards 0 --workers 0 --parts 0 --tree random --job count",
             b"usage parts\n".as_slice(),
+        ),
+        (
+            "--gen x --keep x --shards 0 --workers 0 --tree random --job count",
+            b"usage workers\n".as_slice(),
+        ),
+        (
+            "--gen x --keep x --shards 0 --tree random --job count",
+            b"usage shards\n".as_slice(),
+        ),
+        (
+            "--gen x --keep x --tree random --job count",
+            b"usage keep\n".as_slice(),
+        ),
+        (
+            "--keep x --work x --job count --tree random",
+            b"usage words\n".as_slice(),
+        ),
+        (
+            "--keep x --work --job latest --tree rotating",
+            b"usage keep\n".as_slice(),
         ),
         (
             "--gen x --job latest --tree rotating",

@@ -24,6 +24,9 @@ pub fn line_of_usage(field: Field) -> &'static [u8]
         Field::Tree => b"usage tree\n",
         Field::Buckets => b"usage buckets\n",
         Field::Parts => b"usage parts\n",
+        Field::Workers => b"usage workers\n",
+        Field::Shards => b"usage shards\n",
+        Field::Keep => b"usage keep\n",
         Field::Gen => b"usage gen\n",
     }
 }
