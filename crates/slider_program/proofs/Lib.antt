@@ -1,2 +1,4 @@
 pub mod Statuses
+pub mod ErrLines
+pub mod Untouched
 pub mod RunCounts

@@ -1,3 +1,4 @@
 pub mod Words
 pub mod Summaries
+pub mod Trees
 pub mod Program

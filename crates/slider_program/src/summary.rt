@@ -1,22 +1,30 @@
 //! The line that sums up what is written for a generated script.
-ghost use Rattle.std.specs.Prelude.{◌≡◌, IfOk, string_bytes};
+ghost use Rattle.std.specs.Prelude.{◌≡◌, false, IfOk, string_bytes};
+ghost use Rattle.std.specs.declared.option.Option.TheVariants.{Some};
 ghost use Rattle.definitions.specs.Limits.{most_script};
 ghost use Rattle.definitions.specs.Outside.{Told};
 ghost use Rattle.record_text.specs.Script.{commands};
 ghost use Rattle.job_laws.specs.Meanings.{meaning_of};
 ghost use Rattle.job_laws.specs.Rows.{RowRose};
 ghost use Rattle.window_manager.specs.Windows.{empty_window};
+ghost use Rattle.window_manager.specs.Views.{no_leaves};
 ghost use Rattle.run_settings.specs.Settings.{AreWithin};
+ghost use Rattle.slider_session.specs.Devices.{sink_view};
+ghost use Rattle.slider_session.specs.Costs.{ScriptCosts};
+ghost use Rattle.slider_program.specs.Program.{ErrSaid, status_if_ok};
 ghost use Rattle.slider_program.specs.Summaries.{runs_in, runs_of, summary_line, summary_of};
 
 use definitions::MOST_SCRIPT;
 use job_laws::{Job, MeterRow};
-use record_text::{Command, Kind, ScriptFault, ScriptReader};
+use record_text::{Command, ScriptFault, ScriptReader};
 use run_settings::Settings;
 use sha2::{Digest, Sha256};
-use slider_io::{Source, SureSink, SureSource};
+use slider_io::{Gate, Sink, Source, SureSink, SureSource};
 use slider_session::serve;
 use std::alloc::{AllocError, Global};
+use std::sync::Wait;
+use std::thread::Threads;
+use tree_laws::Tree;
 
 /// How many runs a command is.
 fn runs_in(command: &Command) -> u64
@@ -58,19 +66,33 @@ fn line_of_output(alloc: Global, runs: u64, output: &[u8]) -> Result<String, All
     format!(in alloc; "runs {runs} bytes {bytes} sha256 {digest}\n")
 }
 
-/// Serves a generated script with a job, from the empty window of a kind on, and sums up its output, which is gathered
-/// and not written. A generated script has no fault, so memory alone is wanted where there is no line.
-pub fn summary_of<J: Job>(
+/// Serves a generated script with a job in trees of one kind, from the empty window on, and sums up its output, which is
+/// gathered and not written. A generated script has no fault, so memory alone is wanted where there is no line.
+pub fn summary_of<
+    J: Job + Send + Sync,
+    T: Tree<J> + Send,
+    E: Sink,
+    G: Gate,
+    R: Threads + Wait + Sync,
+>(
     alloc: Global,
+    rt: &R,
     job: J,
     settings: Settings,
-    kind: Kind,
     script: Vec<u8>,
+    err: &mut E,
     meters: &mut MeterRow<J::Meter>,
+    gate: &G,
 ) -> Result<String, AllocError>
+where
+    J::Val: Send + Sync,
+    J::Meter: Send + Sync,
     requires { AreWithin settings }
-    ensures summary { IfOk result (λ line. string_bytes line ≡ summary_of (meaning_of J.Job job) (empty_window kind settings.places) script.items) }
-    ensures counted { RowRose J.Meter.counts meters.old meters.new }
+    ensures summary { IfOk result (λ line. string_bytes line ≡ summary_of (meaning_of J.Job job) (empty_window T.KIND settings.places) script.items) }
+    ensures said { ErrSaid (meaning_of J.Job job) (empty_window T.KIND settings.places) J.Meter.counts settings.work (Some script.items) meters.old meters.new (sink_view E.Sink err.old) (sink_view E.Sink err.new) (status_if_ok result) }
+    ensures rose { RowRose J.Meter.counts meters.old meters.new }
+    ensures costs { ScriptCosts (meaning_of J.Job job) T.bound T.shaped J.Meter.counts (no_leaves T.KIND settings.places) (commands most_script script.items).0 meters.old meters.new }
+    ensures quiet { settings.work ≡ false → err.new ≡ err.old }
 {
     let mut first = SureSource::new(Vec::from_slice(alloc, script.as_slice())?);
     let Ok(runs) = count_runs(alloc, &mut first) else {
@@ -78,7 +100,17 @@ pub fn summary_of<J: Job>(
     };
     let mut source = SureSource::new(script);
     let mut output = SureSink::new(alloc);
-    match serve(alloc, job, settings, kind, &mut source, &mut output, meters) {
+    match serve::<J, T, _, _, E, G, R>(
+        alloc,
+        rt,
+        job,
+        settings,
+        &mut source,
+        &mut output,
+        err,
+        meters,
+        gate,
+    ) {
         Ok(()) => line_of_output(alloc, runs, output.held()),
         Err(_) => Err(AllocError),
     }
