@@ -20,7 +20,7 @@ pub struct Ran {
 
 impl Ran {
     /// Whether this was written, said and answered.
-    fn is(&self, out: &[u8], err: &[u8], status: u8) -> bool {
+    pub fn is(&self, out: &[u8], err: &[u8], status: u8) -> bool {
         self.out.as_slice() == out && self.err.as_slice() == err && self.status == status
     }
 }

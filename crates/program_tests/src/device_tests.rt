@@ -51,10 +51,12 @@ fn latest_refuses_the_rotating_tree(rt: HostRuntime) -> Result<(), AllocError> {
     Ok(())
 }
 
-/// Runs a script over devices of one byte a call that fail at these calls, and answers what was written and the status.
+/// Runs a script, with these words, over devices of one byte a call that fail at these calls, and answers what was written
+/// and the status.
 fn run_failing<Q: Threads + Wait + Sync>(
     rt: &Q,
     alloc: Global,
+    words: &[String],
     source_fails: u64,
     out_fails: u64,
     err_fails: u64,
@@ -63,7 +65,6 @@ fn run_failing<Q: Threads + Wait + Sync>(
     let Ok(mut meters) = new_meters(alloc) else {
         return Err(AllocError);
     };
-    let words = count_words(alloc)?;
     let mut source = MemSource::new(
         Vec::from_slice(alloc, script)?,
         1,
@@ -74,7 +75,7 @@ fn run_failing<Q: Threads + Wait + Sync>(
     let status = run_program(
         alloc,
         rt,
-        words.as_slice(),
+        words,
         &basic_jobs(),
         &mut source,
         &mut out,
@@ -91,13 +92,14 @@ fn run_failing<Q: Threads + Wait + Sync>(
 
 #[test]
 fn a_failing_device_leaves_a_prefix(rt: HostRuntime) -> Result<(), AllocError> {
-    let ran = run_failing(&rt, rt.alloc(), 5, 0, 0, b"run\nrun\n")?;
+    let words = count_words(rt.alloc())?;
+    let ran = run_failing(&rt, rt.alloc(), words.as_slice(), 5, 0, 0, b"run\nrun\n")?;
     assert_eq!(rt; ran.status, 4);
     assert!(rt; ran.out.as_slice() == b"# run 1 keys 0\n".as_slice());
-    let ran = run_failing(&rt, rt.alloc(), 0, 11, 0, b"run\nrun\n")?;
+    let ran = run_failing(&rt, rt.alloc(), words.as_slice(), 0, 11, 0, b"run\nrun\n")?;
     assert_eq!(rt; ran.status, 5);
     assert!(rt; ran.out.as_slice() == b"# run 1 ke".as_slice());
-    let ran = run_failing(&rt, rt.alloc(), 0, 0, 3, b"run\nx\n")?;
+    let ran = run_failing(&rt, rt.alloc(), words.as_slice(), 0, 0, 3, b"run\nx\n")?;
     assert_eq!(rt; ran.status, 3);
     assert!(rt; ran.out.as_slice() == b"# run 1 keys 0\n".as_slice());
     assert!(rt; ran.err.as_slice() == b"fa".as_slice());
@@ -106,19 +108,39 @@ fn a_failing_device_leaves_a_prefix(rt: HostRuntime) -> Result<(), AllocError> {
 
 #[test]
 fn each_call_of_a_device_may_fail(rt: HostRuntime) -> Result<(), AllocError> {
+    let words = count_words(rt.alloc())?;
     let script = b"bucket 1\na b a\nrun\n";
     let whole = b"# run 1 keys 2\na\t2\nb\t1\n";
     for k in 1..22u64 {
-        let ran = run_failing(&rt, rt.alloc(), k, 0, 0, script)?;
+        let ran = run_failing(&rt, rt.alloc(), words.as_slice(), k, 0, 0, script)?;
         assert_eq!(rt; ran.status, if k < 21 { 4 } else { 0 }, "at {k}");
         let written = if k < 20 { 0 } else { whole.len() };
         assert!(rt; ran.out.as_slice() == &whole[..written], "at {k}");
     }
     for k in 1..25u64 {
-        let ran = run_failing(&rt, rt.alloc(), 0, k, 0, script)?;
+        let ran = run_failing(&rt, rt.alloc(), words.as_slice(), 0, k, 0, script)?;
         assert_eq!(rt; ran.status, if k < 24 { 5 } else { 0 }, "at {k}");
         let written = (k.min(24) - 1) as usize;
         assert!(rt; ran.out.as_slice() == &whole[..written], "at {k}");
     }
+    Ok(())
+}
+
+#[test]
+fn a_failing_err_changes_no_status(rt: HostRuntime) -> Result<(), AllocError> {
+    let words = words(rt.alloc(), "--job count --tree coalescing --work")?;
+    let ran = run_failing(&rt, rt.alloc(), words.as_slice(), 0, 0, 5, b"run\nrun\n")?;
+    let out = b"# run 1 keys 0\n# run 2 keys 0\n";
+    assert!(rt; ran.is(out, b"workwork 2 maps 0 merges 0 joins 0\n", 0));
+    let ran = run_failing(&rt, rt.alloc(), words.as_slice(), 0, 0, 3, b"run\nx\n")?;
+    assert!(rt; ran.is(b"# run 1 keys 0\n", b"wofault 2 unknown\n", 3));
+    let ran = run_failing(&rt, rt.alloc(), words.as_slice(), 0, 0, 34, b"run\nx\n")?;
+    assert!(rt;
+        ran.is(
+            b"# run 1 keys 0\n",
+            b"work 1 maps 0 merges 0 joins 0\nfa",
+            3
+        )
+    );
     Ok(())
 }

@@ -7,6 +7,8 @@ mod calling;
 #[cfg(test)]
 mod device_tests;
 #[cfg(test)]
+mod gate_tests;
+#[cfg(test)]
 mod job_tests;
 #[cfg(test)]
 mod kind_tests;
@@ -18,3 +20,5 @@ mod sheet_tests;
 mod tests;
 #[cfg(test)]
 mod window_tests;
+#[cfg(test)]
+mod work_tests;

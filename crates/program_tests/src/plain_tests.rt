@@ -1,6 +1,6 @@
 //! The program beside the plain one, over scripts that are made from numbers.
 
-use crate::calling::{count_words, run, run_plainly};
+use crate::calling::{run, run_plainly, words};
 use std::alloc::{AllocError, Global};
 use std::sync::Wait;
 use std::thread::Threads;
@@ -39,13 +39,15 @@ fn script_from(alloc: Global, seed: u64, pieces: usize, kinds: u64) -> Result<Ve
     Ok(script)
 }
 
-/// Whether the program counts the words of a script as the plain one does.
+/// Whether the program, called with these options, counts the words of a script as the plain one does.
 fn counts_alike<Q: Threads + Wait + Sync>(
     rt: &Q,
     alloc: Global,
+    options: &str,
     script: &[u8],
 ) -> Result<bool, AllocError> {
-    let words = count_words(alloc)?;
+    let line = format!(in alloc; "--job count --tree coalescing{options}")?;
+    let words = words(alloc, line.as_str())?;
     let real = run(rt, alloc, words.as_slice(), script)?;
     let plain = run_plainly(alloc, words.as_slice(), script)?;
     Ok(real == plain)
@@ -55,7 +57,7 @@ fn counts_alike<Q: Threads + Wait + Sync>(
 fn scripts_are_answered_as_by_the_plain_program(rt: HostRuntime) -> Result<(), AllocError> {
     for seed in 0..40u64 {
         let script = script_from(rt.alloc(), seed, 24, 12)?;
-        assert!(rt; counts_alike(&rt, rt.alloc(), script.as_slice())?);
+        assert!(rt; counts_alike(&rt, rt.alloc(), "", script.as_slice())?);
     }
     Ok(())
 }
@@ -66,7 +68,25 @@ fn scripts_with_broken_lines_end_as_in_the_plain_program(
 ) -> Result<(), AllocError> {
     for seed in 0..40u64 {
         let script = script_from(rt.alloc(), seed, 12, 16)?;
-        assert!(rt; counts_alike(&rt, rt.alloc(), script.as_slice())?);
+        assert!(rt; counts_alike(&rt, rt.alloc(), "", script.as_slice())?);
+    }
+    Ok(())
+}
+
+#[test]
+fn scripts_are_answered_alike_by_many_workers(rt: HostRuntime) -> Result<(), AllocError> {
+    for options in [
+        " --workers 4 --parts 5",
+        " --workers 16 --shards 8 --parts 16",
+        " --workers 2 --shards 3 --keep 0",
+    ] {
+        for seed in 40..48u64 {
+            let script = script_from(rt.alloc(), seed, 12, 12)?;
+            assert!(rt;
+                counts_alike(&rt, rt.alloc(), options, script.as_slice())?,
+                "with{options}"
+            );
+        }
     }
     Ok(())
 }

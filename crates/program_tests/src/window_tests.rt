@@ -168,17 +168,6 @@ fn an_edited_document_is_answered(rt: HostRuntime) -> Result<(), AllocError> {
 }
 
 #[test]
-fn a_late_record_changes_one_path(rt: HostRuntime) -> Result<(), AllocError> {
-    let script =
-        b"bucket 1\na\nbucket 1\nb\nbucket 1\nc\nbucket 1\nd\nbucket 1\ne\nrun\nlate 0 1\nz\nrun\n";
-    let out =
-        b"# run 1 keys 5\na\t1\nb\t1\nc\t1\nd\t1\ne\t1\n# run 2 keys 6\na\t1\nb\t1\nc\t1\nd\t1\ne\t1\nz\t1\n";
-    let line = "--job count --tree rotating --buckets 5";
-    assert!(rt; line_gives(&rt, rt.alloc(), line, script, out, b"")?);
-    Ok(())
-}
-
-#[test]
 fn late_records_keep_their_bucket_order(rt: HostRuntime) -> Result<(), AllocError> {
     let script =
         b"bucket 1\nk\t1\nbucket 1\nk\t2\nlate 0 1\nk\t3\nrun\ndrop 0\nlate 1 1\nk\t4\nrun\nlate 2 0\n";
@@ -227,34 +216,6 @@ fn names_of_files_are_checked(rt: HostRuntime) -> Result<(), AllocError> {
             b""
         )?
     );
-    Ok(())
-}
-
-#[test]
-fn an_edit_cuts_where_nothing_would(rt: HostRuntime) -> Result<(), AllocError> {
-    let alloc = rt.alloc();
-    let first = around(alloc, b"load 3\n", b'-', 40_000, b"\n")?;
-    let script = around(
-        alloc,
-        first.as_slice(),
-        b'-',
-        40_000,
-        b"\nx\nrun\nedit 1 1 1\ny\nrun\n",
-    )?;
-    let out = b"# run 1 keys 1\nx\t1\n# run 2 keys 2\nx\t1\ny\t1\n";
-    let line = "--job count --tree random";
-    assert!(rt; line_gives(&rt, alloc, line, script.as_slice(), out, b"")?);
-    Ok(())
-}
-
-#[test]
-fn kept_runs_decide_what_is_mapped_again(rt: HostRuntime) -> Result<(), AllocError> {
-    let script =
-        b"load 2\na b\nc\nrun\nedit 1 1 1\nd\nrun\nedit 1 1 1\ne\nrun\nedit 1 1 1\nc\nrun\n";
-    let out =
-        b"# run 1 keys 3\na\t1\nb\t1\nc\t1\n# run 2 keys 3\na\t1\nb\t1\nd\t1\n# run 3 keys 3\na\t1\nb\t1\ne\t1\n# run 4 keys 3\na\t1\nb\t1\nc\t1\n";
-    let line = "--job count --tree random";
-    assert!(rt; line_gives(&rt, rt.alloc(), line, script, out, b"")?);
     Ok(())
 }
 
