@@ -56,6 +56,7 @@ module _ {V : Type 0} (memo : MemoView) (u : CallerView) (ps : List PinName) (ol
     pub seated-same : w.locks ≡ u.locks → new ≡ old → IsSeated memo w qs new setting places first count
     seated-same locks is = record {
       of = locks ∙ s.of;
+      alone = s.alone;
       covered = covered;
       no_draft = ap (λ (t : TreeView V). t.draft) is ∙ s.no_draft;
       job = s.job ∙ sym (ap (λ (t : TreeView V). t.setting) is);
@@ -68,6 +69,7 @@ module _ {V : Type 0} (memo : MemoView) (u : CallerView) (ps : List PinName) (ol
     pub seated-run : (kind : Kind) (shaped : Shape → Shift → Shape) (shift : Shift) (news : List (SheetOf V)) (places2 first2 count2 : ℕ) → w.locks ≡ u.locks → FitsShift kind places first count (length news) shift → IsSettled shaped shift news old new → places2 ≡ places → first2 ≡ first_after shift first → count2 ≡ count_after shift count → IsSeated memo w qs new setting places2 first2 count2
     seated-run kind shaped shift news places2 first2 count2 locks f settled p q r = record {
       of = locks ∙ s.of;
+      alone = s.alone;
       covered = covered;
       no_draft = ap (λ (t : TreeView V). t.draft) settled.is;
       job = s.job ∙ sym (ap (λ (t : TreeView V). t.setting) settled.is);

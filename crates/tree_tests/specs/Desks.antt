@@ -11,10 +11,11 @@ abbrev pub count_after : Shift → ℕ → ℕ
 count_after (Slide first gone places fresh) count = count - gone + fresh
 count_after (Splice first gone fresh) count = count - gone + fresh
 
--- The caller is the memo's and covers the tree's pins, no draft stands, the job is at the tree's setting, and the window
+-- The memo has one caller, who covers the tree's pins, no draft stands, the job is at the tree's setting, and the window
 -- has the tree's places, its first leaf and as many leaves.
 pub record IsSeated {V : Type 0} (memo : MemoView) (caller : CallerView) (pins : List PinName) (tree : TreeView V) (setting places first count : ℕ) : Type 0 where
   pub of : caller.locks ≡ memo.locks
+  pub alone : memo.callers ≡ 1
   pub covered : Covered caller pins
   pub no_draft : tree.draft ≡ None
   pub job : setting ≡ tree.setting

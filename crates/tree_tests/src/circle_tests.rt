@@ -1,6 +1,7 @@
 //! Circles of small leaves, whose job counts words. Of a circle's places each stands under a path of halves to the root.
 use crate::desk::Desk;
 use crate::steps::{Step, insists, refuses, runs, tries, works_ahead};
+use crate::walks::slides_on;
 use job_laws::CountMeter;
 use jobs_basic::Count;
 use rotating_tree::RotatingTree;
@@ -41,11 +42,11 @@ fn one_bucket_in_five_takes_three_merges(rt: HostRuntime) -> Result<(), Fail> {
             runs(
                 0,
                 &[],
-                &[b"a", b"b", b"c", b"d", b"e"],
+                b"a\nb\nc\nd\ne\n",
                 4,
                 b"a\t1\nb\t1\nc\t1\nd\t1\ne\t1\n",
             ),
-            runs(1, &[], &[b"f"], 3, b"b\t1\nc\t1\nd\t1\ne\t1\nf\t1\n"),
+            runs(1, &[], b"f\n", 3, b"b\t1\nc\t1\nd\t1\ne\t1\nf\t1\n"),
         ],
     )?;
     assert_eq!(rt; went, 2);
@@ -59,7 +60,7 @@ fn three_of_eight_places_take_two_merges(rt: HostRuntime) -> Result<(), Fail> {
         &rt,
         8,
         0,
-        &[runs(0, &[], &[b"a", b"b", b"c"], 2, b"a\t1\nb\t1\nc\t1\n")],
+        &[runs(0, &[], b"a\nb\nc\n", 2, b"a\t1\nb\t1\nc\t1\n")],
     )?;
     assert_eq!(rt; went, 1);
     Ok(())
@@ -75,18 +76,12 @@ fn a_changed_place_takes_the_path_over_it(rt: HostRuntime) -> Result<(), Fail> {
         4,
         0,
         &[
-            runs(
-                0,
-                &[],
-                &[b"a", b"b", b"c", b"d"],
-                3,
-                b"a\t1\nb\t1\nc\t1\nd\t1\n",
-            ),
-            runs(1, &[1], &[b"c c c", b"e"], 3, b"b\t1\nc\t3\nd\t1\ne\t1\n"),
+            runs(0, &[], b"a\nb\nc\nd\n", 3, b"a\t1\nb\t1\nc\t1\nd\t1\n"),
+            runs(1, &[1], b"c c c\ne\n", 3, b"b\t1\nc\t3\nd\t1\ne\t1\n"),
             runs(
                 0,
                 &[0, 3],
-                &[b"b b b b b", b"e e e e"],
+                b"b b b b b\ne e e e\n",
                 2,
                 b"b\t5\nc\t3\nd\t1\ne\t4\n",
             ),
@@ -110,31 +105,19 @@ fn ranges_wrap_round_the_circle(rt: HostRuntime) -> Result<(), Fail> {
             runs(
                 0,
                 &[],
-                &[b"a", b"b", b"c", b"d", b"e"],
+                b"a\nb\nc\nd\ne\n",
                 4,
                 b"a\t1\nb\t1\nc\t1\nd\t1\ne\t1\n",
             ),
-            runs(
-                3,
-                &[],
-                &[b"f", b"g", b"h"],
-                4,
-                b"d\t1\ne\t1\nf\t1\ng\t1\nh\t1\n",
-            ),
+            runs(3, &[], b"f\ng\nh\n", 4, b"d\t1\ne\t1\nf\t1\ng\t1\nh\t1\n"),
             runs(
                 0,
                 &[1, 2],
-                &[b"e e", b"f f f"],
+                b"e e\nf f f\n",
                 3,
                 b"d\t1\ne\t2\nf\t3\ng\t1\nh\t1\n",
             ),
-            runs(
-                3,
-                &[],
-                &[b"i", b"j", b"k"],
-                4,
-                b"g\t1\nh\t1\ni\t1\nj\t1\nk\t1\n",
-            ),
+            runs(3, &[], b"i\nj\nk\n", 4, b"g\t1\nh\t1\ni\t1\nj\t1\nk\t1\n"),
         ],
     )?;
     assert_eq!(rt; went, 4);
@@ -149,10 +132,10 @@ fn a_circle_lets_leaves_go_where_all_places_are_taken(rt: HostRuntime) -> Result
         3,
         0,
         &[
-            runs(0, &[], &[b"a", b"b"], 1, b"a\t1\nb\t1\n"),
-            refuses(1, &[], &[b"c"], b"a\t1\nb\t1\n"),
-            refuses(0, &[], &[b"c", b"d"], b"a\t1\nb\t1\n"),
-            refuses(0, &[2], &[b"c"], b"a\t1\nb\t1\n"),
+            runs(0, &[], b"a\nb\n", 1, b"a\t1\nb\t1\n"),
+            refuses(1, &[], b"c\n", b"a\t1\nb\t1\n"),
+            refuses(0, &[], b"c\nd\n", b"a\t1\nb\t1\n"),
+            refuses(0, &[2], b"c\n", b"a\t1\nb\t1\n"),
             works_ahead(b"a\t1\nb\t1\n"),
         ],
     )?;
@@ -169,9 +152,9 @@ fn a_draft_of_a_circle_that_is_dropped_leaves_no_trace(rt: HostRuntime) -> Resul
         3,
         0,
         &[
-            runs(0, &[], &[b"a", b"b"], 1, b"a\t1\nb\t1\n"),
-            tries(0, &[0], &[b"a a a", b"c"], 2, b"a\t1\nb\t1\n"),
-            runs(0, &[0], &[b"a a a", b"c"], 0, b"a\t3\nb\t1\nc\t1\n"),
+            runs(0, &[], b"a\nb\n", 1, b"a\t1\nb\t1\n"),
+            tries(0, &[0], b"a a a\nc\n", 2, b"a\t1\nb\t1\n"),
+            runs(0, &[0], b"a a a\nc\n", 0, b"a\t3\nb\t1\nc\t1\n"),
         ],
     )?;
     assert_eq!(rt; went, 3);
@@ -186,9 +169,9 @@ fn all_leaves_may_go_at_once(rt: HostRuntime) -> Result<(), Fail> {
         3,
         0,
         &[
-            runs(0, &[], &[b"a", b"b", b"c"], 2, b"a\t1\nb\t1\nc\t1\n"),
-            runs(1, &[], &[b"d"], 2, b"b\t1\nc\t1\nd\t1\n"),
-            runs(3, &[], &[b"x", b"y", b"z"], 2, b"x\t1\ny\t1\nz\t1\n"),
+            runs(0, &[], b"a\nb\nc\n", 2, b"a\t1\nb\t1\nc\t1\n"),
+            runs(1, &[], b"d\n", 2, b"b\t1\nc\t1\nd\t1\n"),
+            runs(3, &[], b"x\ny\nz\n", 2, b"x\t1\ny\t1\nz\t1\n"),
         ],
     )?;
     assert_eq!(rt; went, 3);
@@ -203,8 +186,8 @@ fn a_circle_of_one_place_merges_nothing(rt: HostRuntime) -> Result<(), Fail> {
         1,
         0,
         &[
-            runs(0, &[], &[b"a"], 0, b"a\t1\n"),
-            runs(1, &[], &[b"b"], 0, b"b\t1\n"),
+            runs(0, &[], b"a\n", 0, b"a\t1\n"),
+            runs(1, &[], b"b\n", 0, b"b\t1\n"),
         ],
     )?;
     assert_eq!(rt; went, 2);
@@ -221,9 +204,9 @@ fn equal_merges_are_made_once(rt: HostRuntime) -> Result<(), Fail> {
         4,
         0,
         &[
-            runs(0, &[], &[b"a", b"a", b"a", b"a"], 2, b"a\t4\n"),
-            runs(1, &[], &[b"b"], 2, b"a\t3\nb\t1\n"),
-            runs(1, &[], &[b"a"], 0, b"a\t3\nb\t1\n"),
+            runs(0, &[], b"a\na\na\na\n", 2, b"a\t4\n"),
+            runs(1, &[], b"b\n", 2, b"a\t3\nb\t1\n"),
+            runs(1, &[], b"a\n", 0, b"a\t3\nb\t1\n"),
         ],
     )?;
     assert_eq!(rt; went, 3);
@@ -239,9 +222,9 @@ fn a_worn_lock_leaves_merges_of_a_circle_loose(rt: HostRuntime) -> Result<(), Fa
         2,
         1 << 62,
         &[
-            runs(0, &[], &[b"a", b"b"], 1, b"a\t1\nb\t1\n"),
-            tries(1, &[], &[b"c"], 1, b"a\t1\nb\t1\n"),
-            runs(1, &[], &[b"c"], 1, b"b\t1\nc\t1\n"),
+            runs(0, &[], b"a\nb\n", 1, b"a\t1\nb\t1\n"),
+            tries(1, &[], b"c\n", 1, b"a\t1\nb\t1\n"),
+            runs(1, &[], b"c\n", 1, b"b\t1\nc\t1\n"),
         ],
     )?;
     assert_eq!(rt; went, 3);
@@ -256,9 +239,9 @@ fn out_of_memory_the_circle_stands(rt: HostRuntime) -> Result<(), Fail> {
         3,
         0,
         &[
-            insists(0, &[], &[b"a", b"b", b"c"], b"a\t1\nb\t1\nc\t1\n"),
-            insists(1, &[], &[b"d"], b"b\t1\nc\t1\nd\t1\n"),
-            insists(1, &[1], &[b"d d", b"e"], b"c\t1\nd\t2\ne\t1\n"),
+            insists(0, &[], b"a\nb\nc\n", b"a\t1\nb\t1\nc\t1\n"),
+            insists(1, &[], b"d\n", b"b\t1\nc\t1\nd\t1\n"),
+            insists(1, &[1], b"d d\ne\n", b"c\t1\nd\t2\ne\t1\n"),
         ],
     ) {
         Ok(went) => assert_eq!(rt; went, 3),
@@ -270,12 +253,13 @@ fn out_of_memory_the_circle_stands(rt: HostRuntime) -> Result<(), Fail> {
 /// The places of the circle that the walk goes round.
 const PLACES: usize = 5;
 
-// A leaf of the walk.
-fn record_of(step: usize, k: usize) -> [u8; 3] {
+// The record of a leaf of the walk.
+fn record_of(step: usize, k: usize) -> [u8; 4] {
     [
         b'a' + ((step % 26 * 7 + k % 26) % 26) as u8,
         b' ',
         b'a' + (step % 26) as u8,
+        b'\n',
     ]
 }
 
@@ -288,37 +272,10 @@ fn leaves_of_step(
 ) -> Result<Vec<Sheet<Small>>, AllocError> {
     let mut news = Vec::new(alloc);
     'came: for k in 0..count {
-        let mut one = desk.leaves(alloc, &[record_of(step, k).as_slice()])?;
+        let mut one = desk.leaves(alloc, record_of(step, k).as_slice())?;
         news.append(&mut one)?;
     }
     Ok(news)
-}
-
-// The leaves of a window after the oldest ones went, the one at the changed place is new, and the others came.
-fn moves_on(
-    window: &mut Vec<Sheet<Small>>,
-    gone: usize,
-    changed: Option<usize>,
-    news: Vec<Sheet<Small>>,
-) -> Result<(), AllocError> {
-    'gone: for _ in 0..gone {
-        if !window.is_empty() {
-            window.remove(0);
-        }
-    }
-    let mut place = changed;
-    'news: for sheet in news {
-        match place {
-            Some(at) => {
-                if at < window.len() {
-                    window[at] = sheet;
-                }
-                place = None;
-            }
-            None => window.push(sheet)?,
-        }
-    }
-    Ok(())
 }
 
 // A step of the walk: whether the root is the plain merge of the window's leaves.
@@ -335,10 +292,8 @@ fn goes_on<W: Wait>(
     let at = [step % kept.max(1)];
     let (places, _) = at.as_slice().split_at((1 - step % 2).min(kept));
     let news = leaves_of_step(desk, alloc, step, fresh.saturating_add(places.len()))?;
-    let shift = desk.slide(alloc, gone, places, news.len())?;
-    let went = desk.runs(alloc, rt, &shift, news.as_slice())?;
-    moves_on(window, gone, places.first().copied(), news)?;
-    Ok(went && desk.is_merge_of(alloc, window.as_slice(), &mut CountMeter::new())?)
+    let m = &mut CountMeter::new();
+    slides_on(desk, alloc, rt, step, gone, places, news, window, m)
 }
 
 // How many of so many steps went right.

@@ -5,6 +5,7 @@ use crate::leaves::{leaves, lines_of, plain, slide};
 use crate::running::{run_and_drop, run_once};
 use crate::window::Window;
 use job_laws::{Job, Meter};
+use memo_core::Event;
 use pin_table::{Caller, Memo};
 use record_text::Shift;
 use sheets::{Sheet, same_sheet};
@@ -213,13 +214,13 @@ impl<J: Job, T: Tree<J>> Desk<J, T> {
         Ok(same && done)
     }
 
-    /// The leaves of these records.
+    /// The leaves of the records of a text.
     pub(crate) fn leaves(
         &mut self,
         alloc: Global,
-        records: &[&[u8]],
+        text: &[u8],
     ) -> Result<Vec<Sheet<J>>, AllocError> {
-        leaves(alloc, &self.job, records, &mut self.m)
+        leaves(alloc, &self.job, text, &mut self.m)
     }
 
     /// The slide by which so many of the oldest leaves go, and which brings so many sheets, those of the changed places
@@ -239,15 +240,32 @@ impl<J: Job, T: Tree<J>> Desk<J, T> {
         self.m.counts().merges
     }
 
-    /// Whether the root is the merge of these sheets from left to right, made past the tree.
+    /// Whether the root is the merge of these sheets from left to right, made past the tree, and there is none of no sheets.
     pub(crate) fn is_merge_of(
         &self,
         alloc: Global,
         sheets: &[Sheet<J>],
         m: &mut J::Meter,
     ) -> Result<bool, AllocError> {
+        if sheets.is_empty() {
+            return Ok(self.tree.root().is_none());
+        }
         let want = plain(alloc, &self.job, sheets, m)?;
         Ok(self.has(&want))
+    }
+
+    /// How often the memo was asked, at whose end.
+    pub(crate) fn looks(self, alloc: Global) -> Result<usize, AllocError> {
+        let Desk { memo, caller, .. } = self;
+        let mut callers = Vec::new(alloc);
+        callers.push(caller)?;
+        let mut count = 0usize;
+        if let Ok(shards) = memo.close(callers) {
+            'shards: for i in 0..shards.len() {
+                count = count.saturating_add(looks_in(shards[i].history()));
+            }
+        }
+        Ok(count)
     }
 
     /// Whether the root is this sheet.
@@ -268,6 +286,17 @@ impl<J: Job, T: Tree<J>> Desk<J, T> {
         let shown = self.lines(alloc)?;
         Ok(shown.as_slice() == lines)
     }
+}
+
+// How many of the events are looks.
+fn looks_in(events: &[Event]) -> usize {
+    let mut count = 0usize;
+    'events: for i in 0..events.len() {
+        if matches!(events[i], Event::Look { .. }) {
+            count = count.saturating_add(1);
+        }
+    }
+    count
 }
 
 /// Whether all sheets have this setting.

@@ -1,7 +1,7 @@
 //! Windows that grow, of small leaves. The job keeps the value that came last, so that the order of merges shows.
 use crate::desk::Desk;
-use crate::leaves::leaf;
 use crate::steps::{Step, another_runs, insists, refuses, runs, tries, works_ahead};
+use crate::walks::{goes, leaves_of_step};
 use coalescing_tree::CoalescingTree;
 use job_laws::CountMeter;
 use jobs_basic::Latest;
@@ -33,17 +33,17 @@ fn each_fresh_leaf_takes_one_merge(rt: HostRuntime) -> Result<(), Fail> {
         &rt,
         0,
         &[
-            runs(0, &[], &[], 0, b""),
-            runs(0, &[], &[b"a\t1"], 0, b"a\t1\n"),
-            runs(0, &[], &[b"b\t2"], 1, b"a\t1\nb\t2\n"),
+            runs(0, &[], b"", 0, b""),
+            runs(0, &[], b"a\t1\n", 0, b"a\t1\n"),
+            runs(0, &[], b"b\t2\n", 1, b"a\t1\nb\t2\n"),
             runs(
                 0,
                 &[],
-                &[b"c\t3", b"d\t4", b"e\t5"],
+                b"c\t3\nd\t4\ne\t5\n",
                 3,
                 b"a\t1\nb\t2\nc\t3\nd\t4\ne\t5\n",
             ),
-            runs(0, &[], &[], 0, b"a\t1\nb\t2\nc\t3\nd\t4\ne\t5\n"),
+            runs(0, &[], b"", 0, b"a\t1\nb\t2\nc\t3\nd\t4\ne\t5\n"),
         ],
     )?;
     assert_eq!(rt; went, 5);
@@ -57,8 +57,8 @@ fn the_value_that_came_last_wins(rt: HostRuntime) -> Result<(), Fail> {
         &rt,
         0,
         &[
-            runs(0, &[], &[b"a\t1", b"b\t1", b"a\t2"], 2, b"a\t2\nb\t1\n"),
-            runs(0, &[], &[b"b\t3", b"b\t2"], 2, b"a\t2\nb\t2\n"),
+            runs(0, &[], b"a\t1\nb\t1\na\t2\n", 2, b"a\t2\nb\t1\n"),
+            runs(0, &[], b"b\t3\nb\t2\n", 2, b"a\t2\nb\t2\n"),
         ],
     )?;
     assert_eq!(rt; went, 2);
@@ -73,9 +73,9 @@ fn a_growing_draft_that_is_dropped_leaves_no_trace(rt: HostRuntime) -> Result<()
         &rt,
         0,
         &[
-            runs(0, &[], &[b"a\t1", b"b\t1"], 1, b"a\t1\nb\t1\n"),
-            tries(0, &[], &[b"a\t2", b"c\t1"], 2, b"a\t1\nb\t1\n"),
-            runs(0, &[], &[b"a\t2", b"c\t1"], 0, b"a\t2\nb\t1\nc\t1\n"),
+            runs(0, &[], b"a\t1\nb\t1\n", 1, b"a\t1\nb\t1\n"),
+            tries(0, &[], b"a\t2\nc\t1\n", 2, b"a\t1\nb\t1\n"),
+            runs(0, &[], b"a\t2\nc\t1\n", 0, b"a\t2\nb\t1\nc\t1\n"),
         ],
     )?;
     assert_eq!(rt; went, 3);
@@ -89,8 +89,8 @@ fn a_tree_of_equal_leaves_merges_nothing(rt: HostRuntime) -> Result<(), Fail> {
         &rt,
         0,
         &[
-            runs(0, &[], &[b"a\t1", b"b\t1", b"a\t2"], 2, b"a\t2\nb\t1\n"),
-            another_runs(&[b"a\t1", b"b\t1", b"a\t2"], 0, b"a\t2\nb\t1\n"),
+            runs(0, &[], b"a\t1\nb\t1\na\t2\n", 2, b"a\t2\nb\t1\n"),
+            another_runs(b"a\t1\nb\t1\na\t2\n", 0, b"a\t2\nb\t1\n"),
         ],
     )?;
     assert_eq!(rt; went, 2);
@@ -104,9 +104,9 @@ fn a_growing_window_lets_no_leaf_go(rt: HostRuntime) -> Result<(), Fail> {
         &rt,
         0,
         &[
-            runs(0, &[], &[b"a\t1", b"b\t1"], 1, b"a\t1\nb\t1\n"),
-            refuses(1, &[], &[b"c\t1"], b"a\t1\nb\t1\n"),
-            refuses(0, &[0], &[b"c\t1"], b"a\t1\nb\t1\n"),
+            runs(0, &[], b"a\t1\nb\t1\n", 1, b"a\t1\nb\t1\n"),
+            refuses(1, &[], b"c\t1\n", b"a\t1\nb\t1\n"),
+            refuses(0, &[0], b"c\t1\n", b"a\t1\nb\t1\n"),
             works_ahead(b"a\t1\nb\t1\n"),
         ],
     )?;
@@ -122,9 +122,9 @@ fn a_worn_lock_leaves_growing_merges_loose(rt: HostRuntime) -> Result<(), Fail> 
         &rt,
         1 << 62,
         &[
-            runs(0, &[], &[b"a\t1", b"b\t1"], 1, b"a\t1\nb\t1\n"),
-            tries(0, &[], &[b"a\t2"], 1, b"a\t1\nb\t1\n"),
-            runs(0, &[], &[b"a\t2"], 1, b"a\t2\nb\t1\n"),
+            runs(0, &[], b"a\t1\nb\t1\n", 1, b"a\t1\nb\t1\n"),
+            tries(0, &[], b"a\t2\n", 1, b"a\t1\nb\t1\n"),
+            runs(0, &[], b"a\t2\n", 1, b"a\t2\nb\t1\n"),
         ],
     )?;
     assert_eq!(rt; went, 3);
@@ -138,9 +138,9 @@ fn out_of_memory_the_leaves_stay(rt: HostRuntime) -> Result<(), Fail> {
         &rt,
         0,
         &[
-            insists(0, &[], &[b"a\t1"], b"a\t1\n"),
-            insists(0, &[], &[b"b\t1", b"a\t2"], b"a\t2\nb\t1\n"),
-            insists(0, &[], &[b"c\t1", b"c\t2", b"b\t2"], b"a\t2\nb\t2\nc\t2\n"),
+            insists(0, &[], b"a\t1\n", b"a\t1\n"),
+            insists(0, &[], b"b\t1\na\t2\n", b"a\t2\nb\t1\n"),
+            insists(0, &[], b"c\t1\nc\t2\nb\t2\n", b"a\t2\nb\t2\nc\t2\n"),
         ],
     ) {
         Ok(went) => assert_eq!(rt; went, 3),
@@ -149,28 +149,24 @@ fn out_of_memory_the_leaves_stay(rt: HostRuntime) -> Result<(), Fail> {
     Ok(())
 }
 
-// The leaves of a step of the walk, which are merged into `want` as well, one after the other.
-fn leaves_of_step(
+// The merge of a sheet with those that came, from left to right.
+fn merged_with(
     alloc: Global,
-    step: usize,
-    want: &mut Sheet<Small>,
-) -> Result<Vec<Sheet<Small>>, AllocError> {
+    sheet: &Sheet<Small>,
+    news: &[Sheet<Small>],
+) -> Result<Sheet<Small>, AllocError> {
     let job: Small = Latest::new();
     let mut m = CountMeter::new();
-    let mut news = Vec::new(alloc);
-    'came: for k in 0..step % 4 {
-        let key = b'a' + ((step % 7 * 7 + k % 7) % 26) as u8;
-        let value = b'0' + (step % 10) as u8;
-        let sheet = leaf(alloc, &job, &[key, b'\t', value], &mut m)?;
-        if want.setting() == 0 && sheet.setting() == 0 {
-            *want = merge_sheets(alloc, &job, want, &sheet, &mut m)?;
+    let mut all = sheet.share()?;
+    'came: for i in 0..news.len() {
+        if all.setting() == 0 && news[i].setting() == 0 {
+            all = merge_sheets(alloc, &job, &all, &news[i], &mut m)?;
         }
-        news.push(sheet)?;
     }
-    Ok(news)
+    Ok(all)
 }
 
-// A step of the walk, after a draft of it that is dropped at each third: whether the root is the plain merge.
+// A step of the walk: whether the root is the plain merge of all leaves.
 fn goes_on<W: Wait>(
     desk: &mut Growing,
     alloc: Global,
@@ -178,12 +174,10 @@ fn goes_on<W: Wait>(
     step: usize,
     want: &mut Sheet<Small>,
 ) -> Result<bool, AllocError> {
-    let news = leaves_of_step(alloc, step, want)?;
+    let news = leaves_of_step(alloc, step, step % 4)?;
+    *want = merged_with(alloc, want, news.as_slice())?;
     let shift = desk.slide(alloc, 0, &[], news.len())?;
-    if step % 3 == 0 && !desk.tries(alloc, rt, &shift, news.as_slice())? {
-        return Ok(false);
-    }
-    let went = desk.runs(alloc, rt, &shift, news.as_slice())?;
+    let went = goes(desk, alloc, rt, step, &shift, news.as_slice())?;
     Ok(went && desk.has(want))
 }
 

@@ -39,16 +39,20 @@ pub(crate) fn leaf<J: Job>(
     Sheet::empty(alloc, job.setting())
 }
 
-/// The sheets of these records.
+/// The sheets of the records of a text, one of each. A record ends with LF.
 pub(crate) fn leaves<J: Job>(
     alloc: Global,
     job: &J,
-    records: &[&[u8]],
+    text: &[u8],
     m: &mut J::Meter,
 ) -> Result<Vec<Sheet<J>>, AllocError> {
     let mut sheets = Vec::new(alloc);
-    'records: for i in 0..records.len() {
-        sheets.push(leaf(alloc, job, records[i], m)?)?;
+    let mut from = 0usize;
+    'bytes: for i in 0..text.len() {
+        if text[i] == b'\n' {
+            sheets.push(leaf(alloc, job, &text[from..i], m)?)?;
+            from = i + 1;
+        }
     }
     Ok(sheets)
 }
@@ -80,6 +84,15 @@ pub(crate) fn slide(
         places,
         fresh: news.saturating_sub(changed.len()),
     })
+}
+
+/// The splice of a document by which so many leaves go from the `first`th on, where so many sheets come.
+pub(crate) fn splice(first: usize, gone: usize, news: usize) -> Shift {
+    Shift::Splice {
+        first,
+        gone,
+        fresh: news,
+    }
 }
 
 /// The merge of the sheets from left to right, of those that have the job's setting.

@@ -7,12 +7,18 @@ mod circle_tests;
 #[cfg(test)]
 mod desk;
 #[cfg(test)]
+mod folding_tests;
+#[cfg(test)]
 mod growing_tests;
 #[cfg(test)]
 mod leaves;
 #[cfg(test)]
+mod random_tests;
+#[cfg(test)]
 mod running;
 #[cfg(test)]
 mod steps;
+#[cfg(test)]
+mod walks;
 #[cfg(test)]
 mod window;

@@ -1,5 +1,6 @@
 //! What is done at a desk, one step after another, and what is then to be seen.
 use crate::desk::Desk;
+use crate::leaves::splice;
 use job_laws::Job;
 use sheets::Sheet;
 use std::alloc::{AllocError, Global};
@@ -21,14 +22,16 @@ enum Deed {
     WorksAhead,
 }
 
-/// A step: so many of the oldest leaves go, and leaves of these records come, those of the changed places first. It is to
-/// make so many merges, where its window can give this, and the root is then to have these lines.
+/// A step: so many leaves go, in a document from the `first`th on and elsewhere the oldest ones, and leaves of the records
+/// of a text come, those of the changed places first. It is to make so many merges, where its window can give this, and
+/// the root is then to have these lines.
 #[derive(Clone, Copy)]
 pub(crate) struct Step<'a> {
     deed: Deed,
+    first: Option<usize>,
     gone: usize,
     changed: &'a [usize],
-    records: &'a [&'a [u8]],
+    records: &'a [u8],
     merges: Option<u64>,
     lines: &'a [u8],
 }
@@ -37,12 +40,13 @@ pub(crate) struct Step<'a> {
 pub(crate) fn runs<'a>(
     gone: usize,
     changed: &'a [usize],
-    records: &'a [&'a [u8]],
+    records: &'a [u8],
     merges: u64,
     lines: &'a [u8],
 ) -> Step<'a> {
     Step {
         deed: Deed::Runs,
+        first: None,
         gone,
         changed,
         records,
@@ -55,7 +59,7 @@ pub(crate) fn runs<'a>(
 pub(crate) fn tries<'a>(
     gone: usize,
     changed: &'a [usize],
-    records: &'a [&'a [u8]],
+    records: &'a [u8],
     merges: u64,
     lines: &'a [u8],
 ) -> Step<'a> {
@@ -69,7 +73,7 @@ pub(crate) fn tries<'a>(
 pub(crate) fn insists<'a>(
     gone: usize,
     changed: &'a [usize],
-    records: &'a [&'a [u8]],
+    records: &'a [u8],
     lines: &'a [u8],
 ) -> Step<'a> {
     Step {
@@ -79,7 +83,7 @@ pub(crate) fn insists<'a>(
 }
 
 /// A run of another tree, which lets the root of the desk's as it was.
-pub(crate) fn another_runs<'a>(records: &'a [&'a [u8]], merges: u64, lines: &'a [u8]) -> Step<'a> {
+pub(crate) fn another_runs<'a>(records: &'a [u8], merges: u64, lines: &'a [u8]) -> Step<'a> {
     Step {
         deed: Deed::AnotherRuns,
         ..runs(0, &[], records, merges, lines)
@@ -90,7 +94,7 @@ pub(crate) fn another_runs<'a>(records: &'a [&'a [u8]], merges: u64, lines: &'a 
 pub(crate) fn works_ahead<'a>(lines: &'a [u8]) -> Step<'a> {
     Step {
         deed: Deed::WorksAhead,
-        ..runs(0, &[], &[], 0, lines)
+        ..runs(0, &[], b"", 0, lines)
     }
 }
 
@@ -98,12 +102,20 @@ pub(crate) fn works_ahead<'a>(lines: &'a [u8]) -> Step<'a> {
 pub(crate) fn refuses<'a>(
     gone: usize,
     changed: &'a [usize],
-    records: &'a [&'a [u8]],
+    records: &'a [u8],
     lines: &'a [u8],
 ) -> Step<'a> {
     Step {
         merges: None,
         ..runs(gone, changed, records, 0, lines)
+    }
+}
+
+/// The same step in a document, whose leaves go and come from the `first`th on.
+pub(crate) fn at<'a>(first: usize, step: Step<'a>) -> Step<'a> {
+    Step {
+        first: Some(first),
+        ..step
     }
 }
 
@@ -149,7 +161,10 @@ impl<J: Job, T: Tree<J>> Desk<J, T> {
         step: &Step,
         news: &[Sheet<J>],
     ) -> Result<bool, AllocError> {
-        let shift = self.slide(alloc, step.gone, step.changed, news.len())?;
+        let shift = match step.first {
+            Some(first) => splice(first, step.gone, news.len()),
+            None => self.slide(alloc, step.gone, step.changed, news.len())?,
+        };
         match step.deed {
             Deed::Runs => self.runs(alloc, rt, &shift, news),
             Deed::Tries => self.tries(alloc, rt, &shift, news),
