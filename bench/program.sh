@@ -31,6 +31,17 @@ run_program() {
     grep "$1" "$work/output"
 }
 
+# try_program PATTERN: runs the program as `rt try` does, which proves nothing and is some hundred times slower than a
+# built program, and shows the lines of its output that fit the pattern; all of it where that fails.
+try_program() {
+    echo "$(basename "$0"): running it unproved; this takes some minutes" >&2
+    (cd "$bench" && rt try --steps 1000000000000 --seconds 7200) > "$work/output" 2>&1 || {
+        cat "$work/output" >&2
+        exit 1
+    }
+    grep "$1" "$work/output"
+}
+
 # draw_code: the code of the draws.
 draw_code() {
     cat <<'RATTLE'
@@ -104,4 +115,183 @@ impl Recipe for Same {
     }
 }
 RATTLE
+}
+
+# begin_tree_program NAME TREE: begins a program over the crate of a tree and what it stands on.
+begin_tree_program() {
+    begin_program "$1" "job_laws jobs_basic record_text sheets memo_core memo_server pin_table tree_laws $2" \
+        definitions slider_io record_text job_laws jobs_basic partition sheets memo_core shared_seats turn_lock \
+        memo_server pin_table tree_laws "$2"
+}
+
+# tree_code: the code of a tree with its memo, of its leaves, and of what some runs of it take. It has no contracts, for
+# programs that are not proved.
+tree_code() {
+    cat <<'RATTLE'
+#![tactic(auto)]
+
+use job_laws::{CountMeter, Meter};
+use jobs_basic::Count;
+use pin_table::{Caller, Memo};
+use record_text::{Places, Records, Shift};
+use sheets::{Sheet, map_sheets};
+use std::alloc::{AllocError, Global};
+use std::io;
+use std::sync::Wait;
+use std::time::{Clock, Instant};
+use tree_laws::{MergeRecipe, Tree};
+
+/// Of so many passes the least time counts, and the most merges.
+const PASSES: usize = 5;
+
+type Words = Count<CountMeter>;
+
+/// A leaf of two words, each of which stands up to 31 times; so few merges have equal inputs.
+fn leaf(alloc: Global, n: u64) -> Result<Sheet<Words>, AllocError> {
+    let mut record = Vec::new(alloc);
+    for _ in 0..n % 31 + 1 {
+        record.extend_from_slice(b"a ".as_slice())?;
+    }
+    for _ in 0..n / 31 % 31 + 1 {
+        record.extend_from_slice(b"b ".as_slice())?;
+    }
+    let mut records = Records::new(alloc);
+    records.push(record.as_slice())?;
+    let mut m = CountMeter::new();
+    match map_sheets(alloc, &Count::new(), &records, 1, &mut m)?.pop() {
+        Some(sheet) => Ok(sheet),
+        None => Sheet::empty(alloc, 0),
+    }
+}
+
+/// So many drawn leaves.
+fn leaves(alloc: Global, state: &mut u64, count: usize) -> Result<Vec<Sheet<Words>>, AllocError> {
+    let mut sheets = Vec::new(alloc);
+    for _ in 0..count {
+        sheets.push(leaf(alloc, draw(state, 961))?)?;
+    }
+    Ok(sheets)
+}
+
+/// A shift, and the sheets that it brings.
+#[derive(Drop)]
+struct Step {
+    shift: Shift,
+    news: Vec<Sheet<Words>>,
+}
+
+/// So many buckets go, and so many come; `first` is the number of the first one then.
+fn slide(
+    alloc: Global,
+    state: &mut u64,
+    first: u64,
+    gone: usize,
+    fresh: usize,
+) -> Result<Step, AllocError> {
+    let shift = Shift::Slide {
+        first,
+        gone,
+        places: Places::new(alloc),
+        fresh,
+    };
+    let news = leaves(alloc, state, fresh)?;
+    Ok(Step { shift, news })
+}
+
+/// A tree, and all that its calls ask for.
+#[derive(Drop)]
+struct Desk<T: Tree<Words>> {
+    memo: Memo<MergeRecipe<Words>>,
+    caller: Caller<MergeRecipe<Words>>,
+    tree: T,
+    m: CountMeter,
+}
+
+impl<T: Tree<Words>> Desk<T> {
+    fn new(alloc: Global, places: u32) -> Result<Desk<T>, AllocError> {
+        let (memo, mut callers) = Memo::new(alloc, 1, 1)?;
+        let caller = match callers.pop() {
+            Some(caller) => caller,
+            None => unreachable!(),
+        };
+        let tree = T::fresh(alloc, 0, places)?;
+        let m = CountMeter::new();
+        Ok(Desk {
+            memo,
+            caller,
+            tree,
+            m,
+        })
+    }
+
+    /// What a run does with the tree.
+    fn run<W: Wait>(&mut self, alloc: Global, rt: &W, step: &Step) -> Result<(), AllocError> {
+        self.tree.advance(
+            alloc,
+            rt,
+            &self.memo,
+            &mut self.caller,
+            &Count::new(),
+            0,
+            &step.shift,
+            step.news.as_slice(),
+            &mut self.m,
+        )?;
+        self.tree.settle(rt, &self.memo, &mut self.caller);
+        Ok(())
+    }
+
+    /// What one of these runs takes, in their mean.
+    fn cost<R: Wait + Clock>(
+        &mut self,
+        alloc: Global,
+        rt: &R,
+        steps: &[Step],
+    ) -> io::Result<Cost> {
+        let before = self.m.counts().merges;
+        let start = Instant::now(rt)?;
+        for step in steps {
+            self.run(alloc, rt, step)?;
+        }
+        let count = steps.len().max(1) as u64;
+        Ok(Cost {
+            nanos: start.elapsed(rt)?.as_nanos() as u64 / count,
+            tenths: (self.m.counts().merges - before) * 10 / count,
+        })
+    }
+}
+
+/// Nanoseconds, and tenths of merges.
+#[derive(Clone, Copy)]
+struct Cost {
+    nanos: u64,
+    tenths: u64,
+}
+
+impl Cost {
+    /// The least time and the most merges of both.
+    fn least(self, before: Option<Cost>) -> Cost {
+        match before {
+            Some(other) => Cost {
+                nanos: self.nanos.min(other.nanos),
+                tenths: self.tenths.max(other.tenths),
+            },
+            None => self,
+        }
+    }
+
+    /// Its time in hundredths of that of the first one, which it is where there is none yet.
+    fn beside(&self, first: &mut Option<Cost>) -> u64 {
+        let nanos = match first {
+            Some(cost) => cost.nanos,
+            None => self.nanos,
+        };
+        if first.is_none() {
+            *first = Some(*self);
+        }
+        self.nanos * 100 / nanos.max(1)
+    }
+}
+RATTLE
+    draw_code
 }
