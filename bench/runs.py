@@ -1,7 +1,7 @@
 #!/usr/bin/env python3
 """Times the runs of full circles with 1, 2 and 4 workers, and measures the program's memory over 1,000 runs.
 
-    bench/runs.py [--seed SEED] [--times TIMES] [--runs RUNS] [--program PATH]
+    bench/runs.py [--seed SEED] [--times TIMES] [--runs RUNS] [--keep FILE] [--program PATH]
 
 The circles have 24, 168 and 1,024 buckets of 2,000 records, and the keys 4 parts. Each circle is filled before its
 first run, and each later run has one bucket more. Each setting is tried TIMES times, and the least time of each run
@@ -14,6 +14,7 @@ import os
 import sys
 
 from buckets import Draws
+from keeping import add_keep, keeping
 from stepping import Coprocess, bucket, circle, find_program, least_of, program_words
 
 PARTS = 4
@@ -85,11 +86,13 @@ def main():
     asked.add_argument("--times", type=int, default=3)
     asked.add_argument("--runs", type=int, default=1000)
     asked.add_argument("--program")
+    add_keep(asked)
     given = asked.parse_args()
     program = find_program(given.program)
-    print(f"seed {given.seed}, least of {given.times}, {PARTS} parts, {os.cpu_count()} processors")
-    show_times(program, given.seed, given.times)
-    show_memory(program, given.seed, given.runs)
+    with keeping(given.keep):
+        print(f"seed {given.seed}, least of {given.times}, {PARTS} parts, {os.cpu_count()} processors")
+        show_times(program, given.seed, given.times)
+        show_memory(program, given.seed, given.runs)
 
 
 if __name__ == "__main__":

@@ -1,7 +1,7 @@
 #!/usr/bin/env python3
 """Times a later run of the program, in step, beside plain programs that count the same words.
 
-    bench/step.py [--seed SEED] [--times TIMES] [--only NAME].. [--program PATH] [--profile]
+    bench/step.py [--seed SEED] [--times TIMES] [--only NAME].. [--keep FILE] [--program PATH] [--profile]
 
 The scripts are the generated ones of the four trees, a day of logs in minutes, circles of 24, 168 and 1,024 buckets of
 2,000 records, and a document of 400,000 records that is edited. The peers lie in bench/peers, and are built here where
@@ -16,16 +16,16 @@ import os
 import shutil
 import signal
 import subprocess
-import sys
 import tempfile
 import time
 
 from buckets import Draws
+from keeping import add_keep, keeping
 from stepping import Coprocess, bucket, circle, find_program, least_of, lines, program_words, runs_of
 
 PEERS = os.path.join(os.path.dirname(os.path.abspath(__file__)), "peers")
 GENERATED = ["folding", "rotating", "coalescing", "random"]
-BESIDE = ["recompute", "counting", "segments", "segments --sha"]
+BESIDE = {"recompute": [], "counting": [], "segments": [], "segments-sha": ["--sha"]}
 
 
 def buckets_of(seed, drops):
@@ -85,19 +85,16 @@ def build_peers(folder):
         return {}
     for name in ["recompute", "counting", "segments"]:
         subprocess.run([compiler, "-O2", "-o", f"{folder}/{name}", f"{PEERS}/{name}.c"], check=True)
-    return {name: [f"{folder}/{name.split()[0]}"] + name.split()[1:] for name in BESIDE}
+    return {name: [f"{folder}/{name.split('-')[0]}"] + words for name, words in BESIDE.items()}
 
 
-def show(name, best, later):
-    """The lines of a script."""
-    one, wall = best["one"], best["one"].later_wall()
-    print(f"{name}: {later} later runs, {one.later() * 1e3:.2f} ms of processor each, peak {one.peak / 1e6:.1f} MB")
-    for peer in BESIDE:
-        if peer in best:
-            time_ratio, memory_ratio = one.later() / best[peer].later(), one.peak / best[peer].peak
-            print(f"    {time_ratio:>8.3f} of the time and {memory_ratio:>6.2f} of the memory of {peer}")
-    four = best["four"].later_wall() / wall
-    print(f"    {four:>8.3f} of the wall time with 4 parts and 4 workers, {wall * 1e3:.2f} ms with 1 and 1")
+def show(script, best):
+    """A row for each program."""
+    one = best["slider"]
+    for name, played in best.items():
+        of_time, of_wall = one.later() / played.later(), one.later_wall() / played.later_wall()
+        taken = f"{played.later() * 1e3:>13.2f}{played.later_wall() * 1e3:>10.2f}{played.peak / 1e6:>9.1f}"
+        print(f"{script:<12} {name:<13}{taken}{of_time:>8.3f}{of_wall:>8.3f}{one.peak / played.peak:>8.2f}", flush=True)
 
 
 def aims(all_best):
@@ -105,24 +102,24 @@ def aims(all_best):
     generated = [all_best[name] for name in GENERATED if name in all_best]
     has_peers = all("recompute" in best for best in all_best.values())
     if generated and has_peers:
-        worst = max(best["one"].later() / best["segments --sha"].later() for best in generated)
+        worst = max(best["slider"].later() / best["segments-sha"].later() for best in generated)
         yield "generated scripts, time beside the segment tree with SHA-256, at most 0.7", worst
         yield "generated scripts, times below the recompute, at least 3", min(map(times_below, generated))
     if "circle-1024" in all_best and has_peers:
         yield "1,024 buckets, times below the recompute, at least 40", times_below(all_best["circle-1024"])
     if "random" in all_best and "document" in all_best:
-        ratio = all_best["document"]["one"].later() / all_best["random"]["one"].later()
+        ratio = all_best["document"]["slider"].later() / all_best["random"]["slider"].later()
         yield "an edit of 400,000 records beside one of 40,000, at most 3", ratio
     if generated:
-        worst = max(best["four"].later_wall() / best["one"].later_wall() for best in generated)
+        worst = max(best["slider-4"].later_wall() / best["slider"].later_wall() for best in generated)
         yield "generated scripts, wall time with 4 parts and 4 workers beside 1 and 1, at most 0.5", worst
     if all_best and has_peers:
-        most = max(best["one"].peak / best["segments"].peak for best in all_best.values())
+        most = max(best["slider"].peak / best["segments"].peak for best in all_best.values())
         yield "all scripts, peak of memory beside the segment tree's, at most 4", most
 
 
 def times_below(best):
-    return best["recompute"].later() / best["one"].later()
+    return best["recompute"].later() / best["slider"].later()
 
 
 def profile(program, seed):
@@ -156,6 +153,24 @@ def profile(program, seed):
     print("\n".join(shown))
 
 
+def play_all(program, seed, times, names):
+    """Plays these scripts, and shows what each took."""
+    print(f"seed {seed}, least of {times}, {os.cpu_count()} processors")
+    all_best = {}
+    with tempfile.TemporaryDirectory() as folder:
+        peers = build_peers(folder)
+        titles = f"{'processor_ms':>13}{'wall_ms':>10}{'peak_MB':>9}{'of_time':>8}{'of_wall':>8}{'of_peak':>8}"
+        print(f"{'script':<12} {'program':<13}{titles}")
+        for name in names:
+            tree, blocks_of = SCRIPTS[name]
+            programs = [(f"slider{end}", [program] + program_words(tree, n, n)) for end, n in [("", 1), ("-4", 4)]]
+            programs += [(peer, words + tree) for peer, words in peers.items()]
+            all_best[name] = least_of(times, programs, blocks_of(seed))
+            show(name, all_best[name])
+    for what, measured in aims(all_best):
+        print(f"aim: {what}: {measured:.2f}")
+
+
 def main():
     asked = argparse.ArgumentParser(description=__doc__.split("\n", maxsplit=1)[0])
     asked.add_argument("--seed", type=int, default=7)
@@ -163,24 +178,13 @@ def main():
     asked.add_argument("--only", action="append", choices=list(SCRIPTS))
     asked.add_argument("--program")
     asked.add_argument("--profile", action="store_true")
+    add_keep(asked)
     given = asked.parse_args()
     program = find_program(given.program)
-    print(f"seed {given.seed}, least of {given.times}, {os.cpu_count()} processors")
-    all_best = {}
-    with tempfile.TemporaryDirectory() as folder:
-        peers = build_peers(folder)
-        for name in given.only or SCRIPTS:
-            tree, blocks_of = SCRIPTS[name]
-            programs = [("one", [program] + program_words(tree, 1, 1)), ("four", [program] + program_words(tree, 4, 4))]
-            programs += [(peer, words + tree) for peer, words in peers.items()]
-            blocks = blocks_of(given.seed)
-            all_best[name] = least_of(given.times, programs, blocks)
-            show(name, all_best[name], len(blocks) - 1)
-            sys.stdout.flush()
-    for what, measured in aims(all_best):
-        print(f"aim: {what}: {measured:.2f}")
-    if given.profile:
-        profile(program, given.seed)
+    with keeping(given.keep):
+        play_all(program, given.seed, given.times, given.only or SCRIPTS)
+        if given.profile:
+            profile(program, given.seed)
 
 
 if __name__ == "__main__":
