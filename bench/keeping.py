@@ -31,6 +31,7 @@ def keeping(path):
     if not path:
         yield
         return
+    os.makedirs(os.path.dirname(os.path.abspath(path)), exist_ok=True)
     kept = Kept()
     with contextlib.redirect_stdout(kept):
         for name, value in description():

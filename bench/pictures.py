@@ -96,7 +96,7 @@ def picture(title, x_title, y_title, curves, x_ticks=None):
     yield "</svg>"
 
 
-def work(rows):
+def work_picture(rows):
     """The work of a run by the records that changed, for each change, and that of all windows from nothing."""
     names = [
         ("edits", "edits at scattered places", "#0072b2"),
@@ -121,7 +121,7 @@ def work(rows):
     )
 
 
-def time(rows):
+def time_picture(rows):
     """The processor time of each program by the buckets of its circle, beside that of slider in the smallest one."""
     names = [
         ("recompute", "all from nothing, in C", "#666666", True),
@@ -159,7 +159,8 @@ def rows_of(path, first_title):
     return [dict(zip(titles, row)) for row in rows if len(row) == len(titles) and row != titles]
 
 
-PICTURES = [("work.svg", "changes.txt", "change", work), ("time.svg", "step.txt", "script", time)]
+# Of each picture its name, the result that it shows, the first title of its table, and what draws it.
+PICTURES = [("work.svg", "changes.txt", "change", work_picture), ("time.svg", "step.txt", "script", time_picture)]
 
 
 def main():

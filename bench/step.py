@@ -94,7 +94,7 @@ def show(script, best):
     for name, played in best.items():
         of_time, of_wall = one.later() / played.later(), one.later_wall() / played.later_wall()
         taken = f"{played.later() * 1e3:>13.2f}{played.later_wall() * 1e3:>10.2f}{played.peak / 1e6:>9.1f}"
-        print(f"{script:<12} {name:<13}{taken}{of_time:>8.3f}{of_wall:>8.3f}{one.peak / played.peak:>8.2f}", flush=True)
+        print(f"{script:<12} {name:<13}{taken}{of_time:>10.3f}{of_wall:>10.3f}{one.peak / played.peak:>9.2f}", flush=True)
 
 
 def aims(all_best):
@@ -159,7 +159,7 @@ def play_all(program, seed, times, names):
     all_best = {}
     with tempfile.TemporaryDirectory() as folder:
         peers = build_peers(folder)
-        titles = f"{'processor_ms':>13}{'wall_ms':>10}{'peak_MB':>9}{'of_time':>8}{'of_wall':>8}{'of_peak':>8}"
+        titles = f"{'processor_ms':>13}{'wall_ms':>10}{'peak_MB':>9}{'of_time':>10}{'of_wall':>10}{'of_peak':>9}"
         print(f"{'script':<12} {'program':<13}{titles}")
         for name in names:
             tree, blocks_of = SCRIPTS[name]
