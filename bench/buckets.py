@@ -15,6 +15,8 @@ import subprocess
 import sys
 import time
 
+from plain.generated import Draws, eight_words
+
 TOP = os.path.dirname(os.path.dirname(os.path.abspath(__file__)))
 PROGRAM = os.path.join(TOP, "crates", "slider_main", "out", "slider_main")
 WORDS = ["--job", "count", "--tree", "coalescing"]
@@ -22,21 +24,10 @@ SIZES = [(200, 10), (2_000, 3), (20_000, 1), (200_000, 1)]
 PEER = "tr -cs A-Za-z0-9 '\\n' | sort | uniq -c"
 
 
-class Draws:
-    """A linear congruential generator modulo 2^64, of which the upper 31 bits are taken."""
-
-    def __init__(self, seed):
-        self.state = seed + 1
-
-    def draw(self, below):
-        self.state = (self.state * 6364136223846793005 + 1442695040888963407) % 2**64
-        return self.state // 2**33 % below
-
-
 def records(draws, count):
     """Records of eight words out of 5,000."""
     for _ in range(count):
-        yield " ".join(f"w{draws.draw(5000)}" for _ in range(8))
+        yield eight_words(draws)
 
 
 def seconds(command, given):
