@@ -1,0 +1,1 @@
+"""What `.ci/hostile` gives to the program."""
