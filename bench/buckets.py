@@ -1,10 +1,10 @@
 #!/usr/bin/env python3
-"""Times the program on one bucket of 200, 2,000 and 20,000 records of eight words each, beside sort and uniq.
+"""Times the program on one bucket of 200 to 200,000 records of eight words each, compared with sort and uniq.
 
     bench/buckets.py [--seed SEED] [--times TIMES]
 
-Each size is tried TIMES times, the small ones more often, the least time counts, and the time of an empty script, which
-is that of starting the program, is taken off. The two programs take turns, so that a busy machine slows both.
+Each size is tried TIMES times, the small ones more often. The least time counts, less the time of an empty script,
+which is that of starting the program. The two programs take turns, so that a busy machine slows both.
 bench/README.md says what the columns are, and what they do not show.
 """
 

@@ -1,5 +1,5 @@
 #!/usr/bin/env python3
-"""Counts what a later run maps and merges, by the size of the change before it, beside the same window from nothing.
+"""Counts what a later run maps and merges, by the size of the change before it, and the same from nothing.
 
     bench/changes.py [--seed SEED] [--keep FILE] [--program PATH]
 
@@ -28,7 +28,7 @@ def document(draws):
 
 
 def places(draws, count, below):
-    """So many distinct places."""
+    """The given number of distinct places."""
     left = list(range(below))
     for at in range(count):
         other = at + draws.draw(below - at)

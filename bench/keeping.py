@@ -1,4 +1,4 @@
-"""Keeps what a bench script prints, as the result of one machine: a text file that first says which one it is."""
+"""Keeps what a bench script prints as the result of one machine: a text file that begins with a description of it."""
 
 import contextlib
 import io

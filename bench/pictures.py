@@ -64,7 +64,7 @@ def drawn(curve, xs, ys):
 
 
 def picture(title, x_title, y_title, curves, x_ticks=None):
-    """The text of a picture, whose axes are logarithmic. Where it names no ticks, they are the powers of ten."""
+    """The text of a picture, whose axes are logarithmic. Without given ticks they are the powers of ten."""
     all_x, all_y = ([point[i] for curve in curves for point in curve.points] for i in (0, 1))
     xs = Scale(min(all_x) / 1.2, max(all_x) * 1.2, LEFT, RIGHT)
     ys = Scale(min(all_y) / 1.3, max(all_y) * 1.3, BELOW, ABOVE)
@@ -122,7 +122,7 @@ def work_picture(rows):
 
 
 def time_picture(rows):
-    """The processor time of each program by the buckets of its circle, beside that of slider in the smallest one."""
+    """The processor time of each program by the buckets of its circle, over that of slider in the smallest one."""
     names = [
         ("recompute", "all from nothing, in C", "#666666", True),
         ("slider", "slider", "#0072b2", False),

@@ -1,10 +1,10 @@
-# What the scripts have in common that make a program of their own. Read by them, and not run itself.
+# Common functions of the scripts that make a program of their own, which source this file.
 top=$(cd "$(dirname "${BASH_SOURCE[0]}")/.." && pwd)
 work=$(mktemp -d)
 trap 'rm -rf "$work"' EXIT
 
-# begin_program NAME DEPENDENCIES CRATE..: lists the crate NAME over its dependencies, beside copies of these crates of
-# the repository, which are all that it stands on. Its folder is then $bench.
+# begin_program NAME DEPENDENCIES CRATE..: lists the crate NAME with its dependencies, next to copies of these crates of
+# the repository, which are all that it depends on. Its folder is then $bench.
 begin_program() {
     local name=$1 dependencies=$2 crate
     shift 2
@@ -20,8 +20,8 @@ begin_program() {
     mkdir -p "$bench/src" "$bench/specs" "$bench/proofs"
 }
 
-# run_program PATTERN: proves, builds and runs the program, and shows the lines of its output that fit the pattern; what
-# the kit says only where that fails.
+# run_program PATTERN: proves, builds and runs the program, and shows the lines of its output that fit the pattern; the
+# kit's messages only if that fails.
 run_program() {
     echo "$(basename "$0"): proving and building; this takes some minutes" >&2
     (cd "$bench" && rt run) > "$work/output" 2> "$work/said" || {
@@ -31,8 +31,8 @@ run_program() {
     grep "$1" "$work/output"
 }
 
-# try_program PATTERN: runs the program as `rt try` does, which proves nothing and is some hundred times slower than a
-# built program, and shows the lines of its output that fit the pattern; all of it where that fails.
+# try_program PATTERN: runs the program with `rt try`, which proves nothing and is some hundred times slower than a
+# built program, and shows the lines of its output that fit the pattern; all of it if that fails.
 try_program() {
     echo "$(basename "$0"): running it unproved; this takes some minutes" >&2
     (cd "$bench" && rt try --steps 1000000000000 --seconds 7200) > "$work/output" 2>&1 || {
@@ -59,7 +59,7 @@ fn draw(state: &mut u64, bound: u64) -> u64
 RATTLE
 }
 
-# recipe_code: the code of a recipe of the memo over numbers, whose digests tell numbers below 16,777,216 apart and
+# recipe_code: the code of a recipe of the memo over numbers, whose digests differ for numbers below 16,777,216 and
 # spread them over shards. The definition of the digest goes into the program's specs.
 recipe_code() {
     echo 'pub mod Digests' > "$bench/specs/Lib.antt"
@@ -117,14 +117,14 @@ impl Recipe for Same {
 RATTLE
 }
 
-# begin_tree_program NAME TREE: begins a program over the crate of a tree and what it stands on.
+# begin_tree_program NAME TREE: begins a program over the crate of a tree and its dependencies.
 begin_tree_program() {
     begin_program "$1" "job_laws jobs_basic record_text sheets memo_core memo_server pin_table tree_laws $2" \
         definitions slider_io record_text job_laws jobs_basic partition sheets memo_core shared_seats turn_lock \
         memo_server pin_table tree_laws "$2"
 }
 
-# tree_code: the code of a tree with its memo, of its leaves, and of what some runs of it take. It has no contracts, for
+# tree_code: the code of a tree with its memo, its leaves, and the cost of some runs of it. It has no contracts, for
 # programs that are not proved.
 tree_code() {
     cat <<'RATTLE'
@@ -141,12 +141,12 @@ use std::sync::Wait;
 use std::time::{Clock, Instant};
 use tree_laws::{MergeRecipe, Tree};
 
-/// Of so many passes the least time counts, and the most merges.
+/// How many passes are made, of which the least time and the most merges count.
 const PASSES: usize = 5;
 
 type Words = Count<CountMeter>;
 
-/// A leaf of two words, each of which stands up to 31 times; so few merges have equal inputs.
+/// A leaf of two words, which each occur up to 31 times, so that few merges have equal inputs.
 fn leaf(alloc: Global, n: u64) -> Result<Sheet<Words>, AllocError> {
     let mut record = Vec::new(alloc);
     for _ in 0..n % 31 + 1 {
@@ -164,7 +164,7 @@ fn leaf(alloc: Global, n: u64) -> Result<Sheet<Words>, AllocError> {
     }
 }
 
-/// So many drawn leaves.
+/// A number of drawn leaves.
 fn leaves(alloc: Global, state: &mut u64, count: usize) -> Result<Vec<Sheet<Words>>, AllocError> {
     let mut sheets = Vec::new(alloc);
     for _ in 0..count {
@@ -180,7 +180,7 @@ struct Step {
     news: Vec<Sheet<Words>>,
 }
 
-/// So many buckets go, and so many come; `first` is the number of the first one then.
+/// A slide by which `gone` buckets go and `fresh` ones come; `first` is the number of the first one afterwards.
 fn slide(
     alloc: Global,
     state: &mut u64,
@@ -241,7 +241,7 @@ impl<T: Tree<Words>> Desk<T> {
         Ok(())
     }
 
-    /// What one of these runs takes, in their mean.
+    /// What one of these runs takes on average.
     fn cost<R: Wait + Clock>(
         &mut self,
         alloc: Global,
@@ -280,7 +280,7 @@ impl Cost {
         }
     }
 
-    /// Its time in hundredths of that of the first one, which it is where there is none yet.
+    /// Its time in hundredths of that of the first one; it becomes the first if there is none yet.
     fn beside(&self, first: &mut Option<Cost>) -> u64 {
         let nanos = match first {
             Some(cost) => cost.nanos,

@@ -1,14 +1,14 @@
 #!/usr/bin/env python3
-"""Times a later run of the program, in step, beside plain programs that count the same words.
+"""Times a later run of the program, in step, compared with plain programs that count the same words.
 
     bench/step.py [--seed SEED] [--times TIMES] [--only NAME].. [--keep FILE] [--program PATH] [--profile]
 
 The scripts are the generated ones of the four trees, a day of logs in minutes, circles of 24, 168 and 1,024 buckets of
-2,000 records, and a document of 400,000 records that is edited. The peers lie in bench/peers, and are built here where
+2,000 records, and a document of 400,000 records that is edited. The peers are in bench/peers, and are built here if
 there is a C compiler. Every answer is compared with the program's. Each script is tried TIMES times, and the least time
 of each run counts; the programs take turns, so that a busy machine slows all. With --only a part of the scripts is
 played; with --program another program is timed, as one that was built before. --profile adds where the time of a later
-run goes, where perf is there. bench/README.md says what is printed, and what it does not show. It needs Linux.
+run goes, if perf is installed. bench/README.md says what is printed, and what it does not show. It needs Linux.
 """
 
 import argparse
@@ -35,7 +35,7 @@ def buckets_of(seed, drops):
 
 
 def document(seed, count):
-    """The generated script of the tree of documents, with so many records."""
+    """The generated script of the tree of documents, with the given number of records."""
     draws = Draws(seed)
     commands = [f"load {count}\n{lines(draws, count)}"]
     for _ in range(39):
@@ -78,7 +78,7 @@ SCRIPTS = {
 
 
 def build_peers(folder):
-    """The command of each peer; none where there is no C compiler."""
+    """The command of each peer; none without a C compiler."""
     compiler = shutil.which("cc")
     if not compiler:
         print("there is no C compiler here, so the peers are left out")

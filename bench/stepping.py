@@ -1,5 +1,5 @@
-"""What step.py and runs.py have in common: scripts in blocks, each of which ends with a run, and programs that are
-given them in step: the whole answer of a run is read before more is written. It needs Linux."""
+"""Common parts of step.py and runs.py: scripts in blocks, each of which ends with a run, and programs that get them in
+step: the whole answer of a run is read before more is written. It needs Linux."""
 
 import os
 import subprocess
@@ -11,7 +11,7 @@ from buckets import PROGRAM, Draws, records
 
 
 def lines(draws, count):
-    """So many records of eight words out of 5,000, as buckets.py draws them."""
+    """The given number of records of eight words out of 5,000, as buckets.py draws them."""
     return "".join(f"{record}\n" for record in records(draws, count))
 
 
@@ -35,7 +35,7 @@ def give_up(why):
 
 
 class Coprocess:
-    """A program under way."""
+    """A running program."""
 
     def __init__(self, words):
         self.words = words

@@ -1,8 +1,8 @@
-# Makes buckets of the lines of an access log, one for each minute of their time stamps, with a run behind each bucket
-# that has lines. A minute in which nothing came is an empty bucket. A line of an earlier minute, or without a time
-# stamp, counts with the minute that is being collected.
+# Makes buckets of the lines of an access log, one for each minute of their time stamps, with a run after each bucket
+# that has lines. A minute without lines is an empty bucket. A line of an earlier minute, or without a time stamp,
+# counts with the minute that is being collected.
 #
-#   awk [-v strip=1] -f minutes.awk access.log
+# awk [-v strip=1] -f minutes.awk access.log
 #
 # With strip=1 lines lose their time stamps, so that these are not counted as words.
 BEGIN {
@@ -23,7 +23,7 @@ function minute_of(stamp, part, month, year, days, zone) {
   return 1440 * days + 60 * part[4] + part[5] - (part[7] ~ /^-/ ? -zone : zone)
 }
 
-# A bucket's number of lines stands before them, so a minute is given when it is over.
+# The number of a bucket's lines comes before them, so a minute is written when it is over.
 function give_minute(i) {
   print "bucket " count
   for (i = 1; i <= count; i++) print lines[i]

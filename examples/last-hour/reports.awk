@@ -1,4 +1,4 @@
-# Writes 63 minutes of made-up weather reports, two in each minute and no minute like another, and a run behind each
+# Writes 63 minutes of made-up weather reports, two in each minute and all minutes different, with a run after each
 # minute from the 60th on.
 BEGIN {
   split("harbour airport bridge tower meadow quarry mill", place, " ")

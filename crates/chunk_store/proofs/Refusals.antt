@@ -1,4 +1,4 @@
--- What a document answers, told of all files.
+-- The results of a document's calls, stated for all files.
 use Rattle.std.proofs.Common.{◌≡◌, ◌≤◌, ◌<◌, ℕ, ◌+◌, Bool, true, false, List, [], ◌++◌, length, drop, Result, Ok, Err, refl, sym, ap, subst, ◌∙◌, arith, inl, inr}
 use Rattle.std.proofs.lemmas.Bool.{cases_order}
 use Rattle.std.proofs.lemmas.List.{take_all, drop_all}
@@ -18,7 +18,7 @@ not_true b h e = cc
 pub not_less : (a b : ℕ) → (a < b → ⊥) → b ≤ a
 not_less a b h = elim (cases_order a b) [ inl e ↦ omega arith | inr (inl l) ↦ absurd (h l) | inr (inr m) ↦ omega arith ]
 
--- the answer of a document, told of a shelf
+-- the result of a document's call, stated for a shelf
 pub answers_map : {M N L K : Type 0} (r : Result Change EditFault) → (M → N) → (N → M) → (L → K) → (K → L) → Answers M L r → Answers N K r
 answers_map (Ok change) to from up down h = ((λ n. h.0 (from n)), (λ k. h.1 (down k)))
 answers_map (Err TooMany) to from up down h = to h

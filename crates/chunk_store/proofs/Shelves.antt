@@ -79,7 +79,7 @@ rises_at (f ∷ fs) i zero d h k l = absurd (omega arith)
 rises_at (f ∷ fs) zero (suc j) d h k l = below_at f.0 fs j d h.0 (omega arith)
 rises_at (f ∷ fs) (suc i) (suc j) d h k l = rises_at fs i j d h.1 (omega arith) (omega arith)
 
--- the files with smaller names stand in front
+-- the files with smaller names come first
 pub parted : (files : List File) (name : List ℕ) → HasRisingNames files → IsPartitionedBy (λ f. is_lt (name_cmp f.0 name)) files
 parted files name h i j d le l t =
     elim (le_cases i j le) [
@@ -98,7 +98,7 @@ file_found name (f ∷ fs) zero d h l e = ap (λ b. cond b f.1 (file_at name fs)
 file_found name (f ∷ fs) (suc i) d h l e =
     ap (λ b. cond b f.1 (file_at name fs)) (h 0 f (omega arith) (omega arith)) ∙ file_found name fs i d (λ j d k m. h (suc j) d (omega arith) (omega arith)) (omega arith) e
 
--- what a search for a name says: names below it stand before place `i`, and no others
+-- what a search for a name says: names below it come before place `i`, and no others
 module _ (files : List File) (name : List ℕ) (rising : HasRisingNames files) (i : ℕ)
     (lows : (j : ℕ) (d : File) → j < i → j < length files → is_lt (name_cmp (get_or files j d).0 name) ≡ true)
     (highs : (j : ℕ) (d : File) → i ≤ j → j < length files → is_lt (name_cmp (get_or files j d).0 name) ≡ false) where

@@ -19,7 +19,7 @@ first_same : (b y z : List (List ℕ)) → 0 < length b → first_or None (b ++ 
 first_same [] y z l = absurd (omega arith)
 first_same (r ∷ b) y z l = refl
 
--- the shared chunks in front stay chunks, since the record behind them stays
+-- the shared chunks before the edit stay chunks, since the record after them stays
 pub prefix : (olds : List (List (List ℕ))) (first at : ℕ) (begun more : List (List ℕ)) → AreChunks olds None → at ≤ length (joined olds)
     → joined (take first olds) ++ begun ≡ take at (joined olds) → (at ≡ 0 → first ≡ 0) → (0 < at → reach first olds < at)
     → AreChunks (take first olds) (first_or None (begun ++ more))
@@ -136,7 +136,7 @@ change_of olds fresh news first last at del ins is cut within bound h =
       least = λ g q l m n. h.least g q (omega arith) m (ap (λ x. reach q x + del) (sym is) ∙ n);
     }
 
--- the shared chunks are those that stood
+-- the shared chunks are the old ones
 pub splice_of : (olds fresh news : List (List (List ℕ))) (first last : ℕ) → news ≡ take first olds ++ (fresh ++ drop last olds) → first ≤ last → last ≤ length olds
     → IsSplice olds news (record { first = first; gone = last - first; fresh = length fresh })
 splice_of olds fresh news first last is order bound =

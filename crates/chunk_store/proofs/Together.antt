@@ -42,7 +42,7 @@ count_insert files i f =
     let e = length-append (all_chunks (take i files)) (all_chunks (drop i files)) in
     omega arith
 
--- a file that goes where it has no chunks takes none with it
+-- a file that is removed without chunks takes none with it
 pub count_settle : (files : List File) (i : ℕ) (d : File) → i < length files
     → length (all_chunks (take i files ++ (file_of (get_or files i d).0 (get_or files i d).1 ++ drop (i + 1) files))) ≡ length (all_chunks files)
 count_settle files i d l =
@@ -52,7 +52,7 @@ count_settle files i d l =
     (all_append (file_of (get_or files i d).0 (get_or files i d).1) (drop (i + 1) files) ∙ ap (λ x. x ++ all_chunks (drop (i + 1) files)) (all_of (get_or files i d).0 (get_or files i d).1))
     ∙ sym (all_at files i d l))
 
--- the chunks of the file with a name stand between those of the others
+-- the chunks of the file with a name are between those of the others
 abbrev pub IsSplit : List ℕ → List File → Type 0
 IsSplit name files = all_chunks files ≡ all_chunks (smaller name files) ++ (file_at name files ++ all_chunks (greater name files))
 

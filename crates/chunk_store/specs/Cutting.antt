@@ -1,10 +1,10 @@
--- A list of records that is being cut: the chunks that are done, and the records of the one that is begun.
+-- A list of records that is being cut: the complete chunks, and the records of the begun one.
 use Rattle.std.specs.Prelude.{◌≡◌, ◌≤◌, ℕ, ◌+◌, Bool, true, List, [], ◌∷◌, ◌++◌, length, Option}
 use Rattle.std.specs.declared.option.Option.TheVariants.{None}
 use Rattle.definitions.specs.Records.{text_of}
 use Rattle.marker_chunker.specs.Cuts.{first_or, last_marks, most_chunk, ends, joined, IsOpen, AreChunks}
 
--- The chunks that are done, and the records of the begun one.
+-- The complete chunks, and the records of the begun one.
 abbrev pub Cutting : Type 0
 Cutting = List (List (List ℕ)) × List (List ℕ)
 
@@ -12,7 +12,7 @@ Cutting = List (List (List ℕ)) × List (List ℕ)
 abbrev pub records_of : Cutting → List (List ℕ)
 records_of c = joined c.0 ++ c.1
 
--- The begun chunk, where there is one, did not end before.
+-- The begun chunk, if there is one, did not end before.
 abbrev pub IsBegun : List (List ℕ) → Type 0
 IsBegun [] = Unit {0}
 IsBegun (r ∷ rs) = IsOpen (r ∷ []) rs
@@ -25,7 +25,7 @@ pub record IsCutting (done : List (List (List ℕ))) (begun : List (List ℕ)) (
   pub started : begun ≡ [] → done ≡ []
   pub small : length (text_of begun) ≤ most_chunk
 
--- Whether a boundary may lie behind the begun records, where `next` follows.
+-- Whether there may be a boundary after the begun records, where `next` follows.
 abbrev pub stops_at : List (List ℕ) → Option (List ℕ) → Bool
 stops_at [] next = true
 stops_at (r ∷ rs) next = ends (r ∷ rs) next

@@ -41,7 +41,7 @@ abbrev pub file_at : List ℕ → List File → List (List (List ℕ))
 file_at name [] = []
 file_at name (f ∷ fs) = cond (eq_by_cmp name_cmp name f.0) f.1 (file_at name fs)
 
--- A file with these chunks; without chunks it is no file.
+-- A file with these chunks; without chunks there is no file.
 abbrev pub file_of : List ℕ → List (List (List ℕ)) → List File
 file_of name [] = []
 file_of name (c ∷ cs) = (name, c ∷ cs) ∷ []
@@ -59,7 +59,7 @@ all_chunks (f ∷ fs) = f.1 ++ all_chunks fs
 abbrev pub chunks_before : List ℕ → List File → ℕ
 chunks_before name files = length (all_chunks (smaller name files))
 
--- The change of one file, as one of all chunks where so many stand before the file.
+-- The change of one file as a change of all chunks, of which this many come before the file.
 abbrev pub raised : ℕ → Change → Change
 raised before change = record { first = before + change.first; gone = change.gone; fresh = change.fresh }
 
@@ -80,7 +80,7 @@ IsEditOf at del ins name files change =
 abbrev pub IsLoadOf : List (List (List ℕ)) → List ℕ → List File → Change → Type 0
 IsLoadOf chunks name files change = IsWhole (chunks_before name files) (file_at name files) chunks change
 
--- The file with this name stands at place `i`.
+-- The file with this name is at place `i`.
 pub record IsAt (name : List ℕ) (files : List File) (i : ℕ) : Type 0 where
   pub within : i < length files
   pub prefix : smaller name files ≡ take i files
@@ -88,7 +88,7 @@ pub record IsAt (name : List ℕ) (files : List File) (i : ℕ) : Type 0 where
   pub named : (d : File) → (slice_index_or files i d).0 ≡ name
   pub chunks : (d : File) → (slice_index_or files i d).1 ≡ file_at name files
 
--- No file has this name, and one with it would stand at place `i`.
+-- No file has this name, and one with it would be at place `i`.
 pub record IsGap (name : List ℕ) (files : List File) (i : ℕ) : Type 0 where
   pub within : i ≤ length files
   pub prefix : smaller name files ≡ take i files
@@ -100,7 +100,7 @@ abbrev pub ends_of : ℕ → List File → List ℕ
 ends_of from [] = []
 ends_of from (f ∷ fs) = (from + length f.1) ∷ ends_of (from + length f.1) fs
 
--- What stands beside files: where their chunks end, and the size of their text.
+-- What a shelf keeps with its files: where their chunks end, and the size of their text.
 pub record IsShelf (files : List File) (ends : List ℕ) (size : ℕ) : Type 0 where
   pub names : HasRisingNames files
   pub documents : HasDocuments files

@@ -1,4 +1,5 @@
-//! What a caller learns of an edit: which chunks are new, so that nothing else is looked at again, or why there are none.
+//! What an edit or a load returns: which chunks are new, so that a caller looks at nothing else again, or why it is
+//! refused.
 ghost use Rattle.std.specs.Prelude.{◌≡◌, ◌<◌, ◌+◌, ◌^◌};
 ghost use Rattle.chunk_store.specs.Files.{raised};
 
@@ -13,7 +14,7 @@ pub struct Change {
 }
 
 impl Change {
-    /// The same change where so many more chunks stand before.
+    /// The same change with `before` more chunks in front.
     pub(crate) fn raised(self, before: usize) -> Change
         requires { before + self.first < 2 ^ 64 }
         ensures { result ≡ raised before self }
@@ -28,7 +29,7 @@ impl Change {
 /// Why an edit or a load is refused, in the order in which the causes are tested.
 #[derive(Clone, Copy, Debug, PartialEq, Eq, Drop, Error)]
 pub enum EditFault {
-    /// More records would be replaced than there are, or more files would have records than may.
+    /// More records would be replaced than there are, or there would be more than 65,536 files with records.
     #[error("more than there is, or than there may be")]
     TooMany,
     /// The text would have more than 268,435,456 bytes.

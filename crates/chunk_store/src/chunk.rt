@@ -1,4 +1,4 @@
-//! A chunk is a run of records that is shared, so that an edit moves those that it does not cut again without a copy.
+//! A chunk is a shared run of records, so that an edit moves those that it does not cut again, without a copy.
 ghost use Rattle.std.specs.Prelude.{◌≡◌, ◌≤◌, length, IfOk};
 ghost use Rattle.definitions.specs.Records.{text_of};
 
@@ -6,7 +6,8 @@ use record_text::{Bundle, Records};
 use std::alloc::{AllocError, Global};
 use std::marker::Model;
 
-/// A shared chunk, seen as its records. Its counts stand beside it, so that a walk over chunks opens none of them.
+/// A shared chunk, modelled as its records. Its counts are kept outside the shared part, so that a walk over chunks
+/// opens none of them.
 #[derive(Drop)]
 pub struct Chunk {
     bundle: Bundle,
@@ -40,7 +41,7 @@ impl Chunk {
         })
     }
 
-    /// The records, to be shared.
+    /// The records, for sharing.
     pub fn bundle(&self) -> &Bundle
         ensures { result.now ≡ self.now }
     {

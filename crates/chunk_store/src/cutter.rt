@@ -11,7 +11,7 @@ use record_text::Records;
 use std::alloc::{AllocError, Global};
 use std::marker::Model;
 
-/// Records that are being cut, seen as the chunks that are done and the records of the begun one. Each record is read
+/// Records that are being cut, modelled as the complete chunks and the records of the begun one. Each record is read
 /// and copied once, when it is pushed.
 #[derive(Drop)]
 pub struct Cutter {
@@ -43,7 +43,7 @@ impl Cutter {
         }
     }
 
-    /// Whether a boundary may lie here, where this record follows.
+    /// Whether there may be a boundary here, if this record follows.
     pub fn stops_before(&self, next: &[u8]) -> bool
         requires { IsRecord next.now }
         ensures stops { result ≡ stops_at self.now.1 (Some next.now) }
@@ -52,7 +52,7 @@ impl Cutter {
         self.begun.len() == 0 || ends_before(self.marks, self.begun.text_len(), next.len())
     }
 
-    /// One record more.
+    /// Adds a record.
     pub fn push(self, alloc: Global, r: &[u8]) -> Result<Cutter, AllocError>
         requires { IsRecord r.now }
         ensures { IfOk result (λ c. records_of c ≡ records_of self ++ r.now ∷ []) }
@@ -81,7 +81,7 @@ impl Cutter {
         })
     }
 
-    /// The chunks, where the begun one ends here.
+    /// The chunks, if the begun one ends here.
     pub fn finish(self, alloc: Global) -> Result<Vec<Chunk>, AllocError>
         ensures records { IfOk result (λ v. joined v.items ≡ records_of self) }
         ensures chunks { IfOk result (λ v. (next : Option (List ℕ)) → stops_at self.1 next ≡ true → AreChunks v.items next) }
@@ -107,7 +107,7 @@ fn end_chunk(alloc: Global, mut done: Vec<Chunk>, begun: Records) -> Result<Vec<
     Ok(done)
 }
 
-/// Cuts on over the records at these places.
+/// Goes on with the records at these places.
 pub fn feed(
     mut cutter: Cutter,
     alloc: Global,

@@ -1,4 +1,4 @@
-//! One document: an edit cuts again only what it may have moved, and the chunks are still those of a cut from nothing.
+//! One document: an edit cuts again only around its place, and the chunks are still those that are cut from nothing.
 ghost use Rattle.std.specs.Prelude.{◌≡◌, ◌<◌, ◌≤◌, ◌+◌, ◌++◌, [], length, take, drop, slice_index_or, IfOk, OnOk, OnErr};
 ghost use Rattle.definitions.specs.Limits.{most_text};
 ghost use Rattle.definitions.specs.Records.{text_of};
@@ -16,7 +16,7 @@ use std::marker::Model;
 /// The most bytes of text of a document, or of all files together.
 const MOST_TEXT: u64 = definitions::MOST_TEXT as u64;
 
-/// Puts fresh chunks in the place of those from `first` to `last`; the others are moved, not copied.
+/// Replaces the chunks from `first` to `last` by fresh ones; the others are moved, not copied.
 fn replace(
     chunks: &mut Vec<Chunk>,
     first: usize,
@@ -39,7 +39,7 @@ fn replace(
     Ok(())
 }
 
-/// A list of records, seen as its chunks: they are those into which the records are cut from nothing, and have at most
+/// A list of records, modelled as its chunks: those into which the records are cut from nothing. It has at most
 /// 268,435,456 bytes of text.
 #[derive(Drop)]
 pub struct Document {
@@ -105,7 +105,7 @@ impl Document {
         self.size
     }
 
-    /// Cuts again where `del` records from place `at` on become `ins`; `size` is the text that there is then.
+    /// Cuts again when `del` records from place `at` on become `ins`; `size` is the size of the text afterwards.
     fn splice(
         &mut self,
         alloc: Global,
@@ -140,7 +140,7 @@ impl Document {
         Ok(change)
     }
 
-    /// The edit of a document beside which other files have `others` bytes of text.
+    /// Edits a document, when other files have `others` bytes of text.
     pub(crate) fn edit_beside(
         &mut self,
         alloc: Global,
@@ -172,7 +172,7 @@ impl Document {
         }
     }
 
-    /// The load of a document beside which other files have `others` bytes of text.
+    /// Loads a document, when other files have `others` bytes of text.
     pub(crate) fn load_beside(
         &mut self,
         alloc: Global,
@@ -203,9 +203,14 @@ impl Document {
         Ok(change)
     }
 
-    /// From the record at place `at` on, `del` records become `ins`. Chunks are cut again from that of the record before
-    /// to the first boundary behind the edit that stood before; that costs their text, and a walk over the counts of the
-    /// others.
+    /// Replaces `del` records from place `at` on, counted from 0, by `ins`. Chunks are cut again from that of the
+    /// record before `at` to the first old boundary after the edit; this costs their text, and a walk over the counts
+    /// of the other chunks. On an error nothing changes.
+    ///
+    /// # Errors
+    ///
+    /// `TooMany` if the edit reaches past the last record, `WindowLarge` if the text would have more than 268,435,456
+    /// bytes, `Mem` out of memory.
     pub fn edit(
         &mut self,
         alloc: Global,
@@ -223,7 +228,11 @@ impl Document {
         self.edit_beside(alloc, at, del, &ins, 0)
     }
 
-    /// The document becomes these records. It costs their text.
+    /// Replaces all records by these. It costs their text. On an error nothing changes.
+    ///
+    /// # Errors
+    ///
+    /// `WindowLarge` if the text would have more than 268,435,456 bytes, `Mem` out of memory.
     pub fn load(&mut self, alloc: Global, records: Records) -> Result<Change, EditFault>
         ensures answers { Answers ⊥ (most_text < length (text_of records)) result }
         ensures ok { OnOk result (self.new ≡ chunks_of records) }

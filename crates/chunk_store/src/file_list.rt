@@ -1,4 +1,4 @@
-//! A list of documents in the order of their names, and where the chunks of each end.
+//! A list of documents in the order of their names, and the places where the chunks of each end.
 ghost use Rattle.std.specs.Prelude.{◌≡◌, ◌<◌, ◌≤◌, ◌+◌, ◌++◌, ◌∷◌, List, length, take, drop, slice_index_or, vec_capacity, IfOk, IfErr, OnOk, OnErr};
 ghost use Rattle.definitions.specs.Limits.{most_text};
 ghost use Rattle.chunk_store.specs.Files.{File, HasRisingNames, IsAt, IsGap, all_chunks, ends_of, file_of};
@@ -7,7 +7,8 @@ use crate::Document;
 use record_text::Name;
 use std::alloc::AllocError;
 
-/// The place of the file with this name, or the place where it would stand. It is a binary search.
+/// The place of the file with this name; `Err` with the place where it would be if there is none. It is a binary
+/// search.
 pub fn find_file(files: &[(Name, Document)], name: &Name) -> Result<usize, usize>
     requires { HasRisingNames files.now }
     ensures here { IfOk result (IsAt name.now files.now) }
@@ -23,7 +24,7 @@ pub fn find_file(files: &[(Name, Document)], name: &Name) -> Result<usize, usize
     Err(i)
 }
 
-/// How many chunks stand before file `i`.
+/// How many chunks come before file `i`.
 pub fn file_begin(ends: &[usize], i: usize) -> usize
     requires { i ≤ length ends.now }
     ensures { (files : List File) → ends.now ≡ ends_of 0 files → result ≡ length (all_chunks (take i files)) }
@@ -38,7 +39,7 @@ pub fn find_chunk(ends: &[usize], i: usize) -> usize
     ends.partition_point(|end| *end <= i)
 }
 
-/// Writes down where the chunks of each file end, from file `from` on; before it that stands.
+/// Notes where the chunks of each file end, from file `from` on; the notes before it stay.
 fn fill(ends: &mut Vec<usize>, files: &[(Name, Document)], from: usize)
     requires within { from ≤ length files.now }
     requires prefix { take from ends.old.items ≡ ends_of 0 (take from files.now) }
@@ -54,7 +55,7 @@ fn fill(ends: &mut Vec<usize>, files: &[(Name, Document)], from: usize)
     }
 }
 
-/// After a change of file `i`: it goes where it has no records.
+/// Removes file `i` after a change that left it without records.
 fn drop_empty(files: &mut Vec<(Name, Document)>, i: usize)
     requires { i < length files.old.items }
     ensures { (d : File) → files.new.items ≡ take i files.old.items ++ (file_of (slice_index_or files.old.items i d).0 (slice_index_or files.old.items i d).1 ++ drop (i + 1) files.old.items) }
@@ -64,7 +65,7 @@ fn drop_empty(files: &mut Vec<(Name, Document)>, i: usize)
     }
 }
 
-/// The same, and writes down anew where chunks end.
+/// The same, and notes again where chunks end.
 pub fn settle(files: &mut Vec<(Name, Document)>, ends: &mut Vec<usize>, i: usize)
     requires within { i < length files.old.items }
     requires prefix { take i ends.old.items ≡ ends_of 0 (take i files.old.items) }
@@ -77,7 +78,7 @@ pub fn settle(files: &mut Vec<(Name, Document)>, ends: &mut Vec<usize>, i: usize
     fill(ends, files.as_slice(), i);
 }
 
-/// One document more, at place `i`.
+/// Inserts a document at place `i`.
 pub fn insert(
     files: &mut Vec<(Name, Document)>,
     ends: &mut Vec<usize>,
@@ -104,7 +105,7 @@ pub fn insert(
     Ok(())
 }
 
-/// One document less, that at place `i`.
+/// Removes the document at place `i`.
 pub fn take_out(files: &mut Vec<(Name, Document)>, ends: &mut Vec<usize>, i: usize)
     requires within { i < length files.old.items }
     requires ends { ends.old.items ≡ ends_of 0 files.old.items }

@@ -1,4 +1,4 @@
-//! Tests of named documents, with values worked by hand, and beside the same documents one by one.
+//! Tests of named documents, with values computed by hand, and compared with the same documents one by one.
 use crate::tests::{blocks, change, draw, drawn, push, spelled as spelled_one};
 use crate::{Change, Document, EditFault, Files};
 use record_text::{Name, Records, is_name};
@@ -40,7 +40,7 @@ fn does(
     }
 }
 
-/// The record so many times.
+/// The record, a given number of times.
 fn times(alloc: Global, count: usize, bytes: &[u8]) -> Result<Records, AllocError> {
     let mut records = Records::new(alloc);
     'times: for _ in 0..count {
@@ -49,7 +49,7 @@ fn times(alloc: Global, count: usize, bytes: &[u8]) -> Result<Records, AllocErro
     Ok(records)
 }
 
-/// The text of the chunks of all files, with a `|` behind each.
+/// The text of the chunks of all files, with a `|` after each.
 fn spelled(alloc: Global, files: &Files) -> Result<Vec<u8>, AllocError> {
     let mut text = Vec::new(alloc);
     'chunks: for i in 0..files.chunk_count() {
@@ -99,7 +99,7 @@ fn files_stand_in_name_order(rt: HostRuntime) -> Result<(), AllocError> {
             change(1, 1, 1),
             b"k\t2\n|x\ny\n|k\t1\n|",
         ),
-        // A file that is not there goes without a trace, and has no records.
+        // Removing a file that is not there changes nothing, and it has no records.
         (
             b"aa",
             Deed::Remove,
@@ -140,7 +140,7 @@ fn files_stand_in_name_order(rt: HostRuntime) -> Result<(), AllocError> {
             change(3, 0, 0),
             b"k\t2\n|x\ny\n|k\t1\n|",
         ),
-        // One left without records is no file.
+        // A file that is left without records does not exist.
         (
             b"ab",
             Deed::Edit(0, 2),
@@ -212,7 +212,7 @@ fn one_file_more_than_65536_is_too_many(rt: HostRuntime) -> Result<(), AllocErro
         (b"onemore", Deed::Edit(0, 0), 1, b"x", many),
         (b"onemore", Deed::Load, 0, b"", change(60749, 0, 0)),
         (b"onemore", Deed::Edit(0, 0), 0, b"", change(60749, 0, 0)),
-        // A file that is there may grow, and one that goes makes room.
+        // A file may grow, and one that leaves makes room.
         (b"pppp", Deed::Edit(1, 0), 1, b"y", change(65535, 1, 1)),
         (b"aaaa", Deed::Remove, 0, b"", change(0, 1, 0)),
         (b"onemore", Deed::Edit(0, 0), 1, b"z", change(60748, 0, 1)),
@@ -231,7 +231,7 @@ fn one_file_more_than_65536_is_too_many(rt: HostRuntime) -> Result<(), AllocErro
     Ok(())
 }
 
-/// Does it to a document alone; so many chunks of others stand before.
+/// Does it to a document alone; `before` chunks of others come before it.
 fn does_alone(
     alloc: Global,
     document: &mut Document,
@@ -257,7 +257,7 @@ fn does_alone(
     }
 }
 
-/// A deed at a document of so many records, at times past its end.
+/// A deed at a document of `count` records, sometimes past its end.
 fn drawn_deed(state: &mut u64, count: usize) -> Deed {
     match draw(state, 10) {
         0 => Deed::Remove,

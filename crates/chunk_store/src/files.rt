@@ -1,4 +1,4 @@
-//! The documents of a window, which are edited by the name that a command chose before: the crate's widest entry.
+//! The documents of a window, edited by the name that a command chose before.
 ghost use Rattle.std.specs.Prelude.{◌≡◌, ◌<◌, ◌≤◌, ◌+◌, [], ◌⊎◌, length, slice_index_or, IfOk, OnOk, OnErr};
 ghost use Rattle.definitions.specs.Limits.{most_files, most_text};
 ghost use Rattle.marker_chunker.specs.Cuts.{joined, chunks_of};
@@ -11,8 +11,8 @@ use record_text::{Bundle, Name, Records};
 use std::alloc::{AllocError, Global};
 use std::marker::Model;
 
-/// Documents by name, seen as those that have records, in byte order of their names, and the current name. An edit or a
-/// load is one of the current file. The chunks are those of the files end to end; none spans two files.
+/// Documents by name, modelled as those that have records, in byte order of their names, and the current name. Edits
+/// and loads act on the current file. The chunks are those of the files end to end; none spans two files.
 #[derive(Drop)]
 pub struct Files {
     shelf: Shelf,
@@ -39,7 +39,7 @@ impl Files {
         }
     }
 
-    /// Another current name; whether such a file is there does not matter.
+    /// Chooses the current name, whether or not there is such a file. Out of memory, nothing changes.
     pub fn select(&mut self, alloc: Global, name: &Name) -> Result<(), AllocError>
         ensures ok { OnOk result (self.new ≡ (self.old.0, name.now)) }
         ensures err { OnErr result (self.new ≡ self.old) }
@@ -88,8 +88,13 @@ impl Files {
         self.shelf.text_len()
     }
 
-    /// The edit of the current file: from the record at place `at` on, `del` records become `ins`. It costs what the edit
-    /// of its document costs, and a walk over the files.
+    /// Edits the current file: replaces `del` records from place `at` on, counted from 0, by `ins`. It costs what
+    /// [`crate::Document::edit`] costs, and a walk over the files. On an error nothing changes.
+    ///
+    /// # Errors
+    ///
+    /// `TooMany` if the edit reaches past the last record, or if there would be more than 65,536 files with records;
+    /// `WindowLarge` if the text of all files would have more than 268,435,456 bytes; `Mem` out of memory.
     pub fn edit(
         &mut self,
         alloc: Global,
@@ -106,7 +111,13 @@ impl Files {
         self.shelf.edit(alloc, &self.name, at, del, &ins)
     }
 
-    /// The load of the current file, which becomes these records. It costs their text, and a walk over the files.
+    /// Replaces all records of the current file by these. It costs their text, and a walk over the files. On an error
+    /// nothing changes.
+    ///
+    /// # Errors
+    ///
+    /// `TooMany` if there would be more than 65,536 files with records; `WindowLarge` if the text of all files would
+    /// have more than 268,435,456 bytes; `Mem` out of memory.
     pub fn load(&mut self, alloc: Global, records: Records) -> Result<Change, EditFault>
         ensures answers { Answers (IsOneTooMany records self.old.1 self.old.0) (most_text < text_size (all_chunks (with_file self.old.1 (chunks_of records) self.old.0))) result }
         ensures ok { OnOk result (self.new ≡ (with_file self.old.1 (chunks_of records) self.old.0, self.old.1)) }
@@ -117,7 +128,7 @@ impl Files {
         self.shelf.load(alloc, &self.name, &records)
     }
 
-    /// A file goes; where there is none with this name, nothing changes. It takes no memory.
+    /// Removes a file; if there is none with this name, nothing changes. It takes no memory.
     pub fn remove(&mut self, name: &Name) -> Change
         ensures files { self.new ≡ (with_file name.now [] self.old.0, self.old.1) }
         ensures change { IsLoadOf [] name.now self.old.0 result }

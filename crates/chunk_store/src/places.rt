@@ -1,4 +1,4 @@
-//! Finds the chunk of a record and the text that an edit keeps, by the counts beside the chunks alone.
+//! Finds the chunk of a record and the size of the text that an edit keeps, by the counts of the chunks alone.
 ghost use Rattle.std.specs.Prelude.{◌≡◌, ◌<◌, ◌≤◌, ◌+◌, ℕ, List, length, take};
 ghost use Rattle.definitions.specs.Limits.{most_text};
 ghost use Rattle.definitions.specs.Records.{text_of};
@@ -8,7 +8,7 @@ ghost use Rattle.chunk_store.specs.Documents.{spliced, text_size};
 use crate::chunk::Chunk;
 use record_text::Records;
 
-/// A chunk, and how many records and bytes of text stand before it.
+/// A chunk, and how many records and bytes of text come before it.
 #[derive(Clone, Copy)]
 pub struct Spot {
     pub chunk: usize,
@@ -16,8 +16,8 @@ pub struct Spot {
     pub text: u64,
 }
 
-/// The chunk that holds record `k`, or the number of chunks where none does. It is a walk over the counts of the chunks
-/// before.
+/// The chunk that holds record `k`, or the number of chunks if none does. It is a walk over the counts of the chunks
+/// before it.
 pub fn find(chunks: &[Chunk], k: usize) -> Spot
     requires { text_size chunks.now ≤ most_text }
     ensures within { result.chunk ≤ length chunks.now }
@@ -60,7 +60,7 @@ fn text_of_first(records: &Records, n: usize) -> u64
     size
 }
 
-/// How many bytes of text the records before place `k` have. It reads lengths of records in one chunk alone.
+/// How many bytes of text the records before place `k` have. It reads the lengths of records in one chunk only.
 pub fn text_before(chunks: &[Chunk], k: usize) -> u64
     requires small { text_size chunks.now ≤ most_text }
     requires within { k ≤ length (joined chunks.now) }
@@ -73,7 +73,7 @@ pub fn text_before(chunks: &[Chunk], k: usize) -> u64
     spot.text + text_of_first(chunks[spot.chunk].bundle().records(), k - spot.start)
 }
 
-/// How many bytes of text stay where `del` records from place `at` on go, of `size` in all.
+/// How many of `size` bytes of text stay if `del` records from place `at` on are removed.
 pub fn text_kept(chunks: &[Chunk], size: u64, at: usize, del: usize) -> u64
     requires small { text_size chunks.now ≤ most_text }
     requires size { size ≡ text_size chunks.now }

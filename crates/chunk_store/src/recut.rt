@@ -1,4 +1,5 @@
-//! Cuts again around an edit, from the chunk of the record before it to the first old boundary that is one still.
+//! Cuts again around an edit, from the chunk of the record before it to the first old boundary that is still a
+//! boundary.
 ghost use Rattle.std.specs.Prelude.{◌≡◌, ◌<◌, ◌≤◌, ◌+◌, ◌++◌, ℕ, length, take, drop, IfOk, true};
 ghost use Rattle.definitions.specs.Limits.{most_text};
 ghost use Rattle.std.specs.declared.option.Option.TheVariants.{None};
@@ -41,7 +42,7 @@ pub fn head(alloc: Global, chunks: &[Chunk], at: usize) -> Result<Reached, Alloc
     })
 }
 
-/// Cuts on over the records from place `to` to the end of the chunk that holds it.
+/// Goes on from place `to` to the end of the chunk that holds it.
 pub fn tail(
     cutter: Cutter,
     alloc: Global,
@@ -70,7 +71,7 @@ pub fn tail(
     })
 }
 
-/// Cuts on over whole chunks from a place on, until a boundary meets one of theirs.
+/// Goes on over whole chunks from a place on, until a boundary meets one of theirs.
 pub fn meet(
     mut cutter: Cutter,
     alloc: Global,
@@ -104,8 +105,8 @@ pub struct Again {
     pub fresh: Vec<Chunk>,
 }
 
-/// Cuts again from the chunk that holds record `at - 1` to the first common boundary behind the edit. What is read and
-/// copied is what the fresh chunks hold.
+/// Cuts again from the chunk that holds record `at - 1` to the first common boundary after the edit. It reads and
+/// copies what the fresh chunks hold.
 pub fn cut_again(
     alloc: Global,
     chunks: &[Chunk],

@@ -1,5 +1,5 @@
-//! Many documents as one list of chunks: it knows where the chunks of each end, so that one of all is found by a binary
-//! search, and how much text they have together.
+//! Many documents as one list of chunks, with the places where the chunks of each end, so that a chunk is found by a
+//! binary search, and with the size of their text.
 ghost use Rattle.std.specs.Prelude.{◌≡◌, ◌≢◌, ◌↔◌, IsTrue, ◌<◌, ◌≤◌, ◌+◌, [], ◌⊎◌, length, slice_index_or, IfOk, OnOk, OnErr};
 ghost use Rattle.definitions.specs.Limits.{most_files, most_text};
 ghost use Rattle.marker_chunker.specs.Cuts.{joined, chunks_of};
@@ -13,8 +13,8 @@ use record_text::{Bundle, Name, Records};
 use std::alloc::{AllocError, Global};
 use std::marker::Model;
 
-/// Documents that have records, seen with their names, in the order of these. Where their chunks end stands beside
-/// them, so that a chunk of all is found by a binary search.
+/// Documents that have records, modelled with their names, in the order of these. The places where their chunks end are
+/// kept next to them, so that a chunk of all is found by a binary search.
 #[derive(Drop)]
 pub struct Shelf {
     files: Vec<(Name, Document)>,
@@ -91,7 +91,7 @@ impl Shelf {
         self.size
     }
 
-    /// One file more at place `i`, after a change that made its document; without records it is none.
+    /// Inserts a file at place `i`, after a change that made its document; without records it is not inserted.
     fn add(
         &mut self,
         alloc: Global,
@@ -133,7 +133,7 @@ impl Shelf {
         !records.is_empty() && self.files.len() == MOST_FILES
     }
 
-    /// The edit of a file that is not there yet, and would stand at place `i`.
+    /// Edits a file that does not exist yet, whose place would be `i`. It fails as `edit` does.
     fn edit_new(
         &mut self,
         alloc: Global,
@@ -164,7 +164,7 @@ impl Shelf {
         }
     }
 
-    /// The edit of the file with this name.
+    /// Edits the file with this name. It fails as [`crate::Files::edit`] does, and then changes nothing.
     pub fn edit(
         &mut self,
         alloc: Global,
@@ -194,7 +194,7 @@ impl Shelf {
         Ok(change.raised(begin))
     }
 
-    /// The load of a file that is not there yet, and would stand at place `i`.
+    /// Loads a file that does not exist yet, whose place would be `i`. It fails as `load` does.
     fn load_new(
         &mut self,
         alloc: Global,
@@ -223,7 +223,7 @@ impl Shelf {
         }
     }
 
-    /// The load of the file with this name.
+    /// Loads the file with this name. It fails as [`crate::Files::load`] does, and then changes nothing.
     pub fn load(
         &mut self,
         alloc: Global,
@@ -251,7 +251,7 @@ impl Shelf {
         Ok(change.raised(begin))
     }
 
-    /// The file with this name goes. It takes no memory.
+    /// Removes the file with this name. It takes no memory.
     pub fn remove(&mut self, name: &Name) -> Change
         ensures files { self.new ≡ with_file name.now [] self.old }
         ensures change { IsLoadOf [] name.now self.old result }

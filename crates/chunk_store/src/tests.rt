@@ -1,4 +1,5 @@
-//! Tests of documents, with values worked by hand, and beside a plain program that cuts everything from nothing.
+//! Tests of documents, with values computed by hand, and compared with a plain program that cuts everything from
+//! nothing.
 ghost use Rattle.std.specs.Prelude.{◌<◌};
 
 use crate::{Change, Document, EditFault};
@@ -6,7 +7,7 @@ use marker_chunker::cut_all;
 use record_text::{Records, is_record};
 use std::alloc::{AllocError, Global};
 
-/// One record more, where there is room.
+/// Adds a record, if there is room.
 pub fn push(records: &mut Records, bytes: &[u8]) -> Result<(), AllocError> {
     if is_record(bytes) && records.len() < 4294967295 {
         records.push(bytes)?;
@@ -22,7 +23,7 @@ pub fn records(alloc: Global, items: &[&[u8]]) -> Result<Records, AllocError> {
     Ok(records)
 }
 
-/// Six records of 100 bytes `-` and the marker `n-`, so many times: each is a chunk of 609 bytes of text.
+/// Six records of 100 bytes `-` and the marker `n-`, `count` times: each time they are a chunk of 609 bytes of text.
 pub fn blocks(alloc: Global, count: usize) -> Result<Records, AllocError> {
     let mut records = Records::new(alloc);
     let dashes = [b'-'; 100];
@@ -40,7 +41,7 @@ pub fn change(first: usize, gone: usize, fresh: usize) -> Result<Change, EditFau
     Ok(Change { first, gone, fresh })
 }
 
-/// The text of the chunks, with a `|` behind each.
+/// The text of the chunks, with a `|` after each.
 pub fn spelled(alloc: Global, document: &Document) -> Result<Vec<u8>, AllocError> {
     let mut text = Vec::new(alloc);
     'chunks: for i in 0..document.chunk_count() {
@@ -104,7 +105,7 @@ fn an_edit_cuts_where_nothing_would(rt: HostRuntime) -> Result<(), AllocError> {
 fn a_load_replaces_all_chunks(rt: HostRuntime) -> Result<(), AllocError> {
     let alloc = rt.alloc();
     let mut document = Document::new(alloc);
-    // The same chunks once more are all new ones.
+    // The same chunks, loaded again, are all new ones.
     for (count, gone) in [(3, 0), (2, 3), (2, 2), (0, 2), (0, 0)] {
         let loaded = document.load(alloc, blocks(alloc, count)?);
         assert_eq!(rt; loaded, change(0, gone, count));
@@ -115,7 +116,7 @@ fn a_load_replaces_all_chunks(rt: HostRuntime) -> Result<(), AllocError> {
     Ok(())
 }
 
-/// An edit beside other files of 268,435,456 bytes of text less 6, where the document has at most 6.
+/// An edit when other files have 268,435,456 bytes of text less 6, so that the document has room for 6.
 fn edit_beside(
     alloc: Global,
     document: &mut Document,
@@ -140,7 +141,7 @@ fn text_is_limited_with_that_of_other_files(rt: HostRuntime) -> Result<(), Alloc
     for (at, del, ins, want) in [
         (0, 0, [b"ab".as_slice(), b"cd"].as_slice(), change(0, 0, 1)),
         (1, 0, &[b""], Err(EditFault::WindowLarge)),
-        // What is replaced does not count, and too many goes first.
+        // What is replaced does not count, and `TooMany` comes first.
         (1, 1, &[b"", b"e"], change(0, 1, 1)),
         (3, 1, &[b"abc"], Err(EditFault::TooMany)),
         (0, 3, &[b"abcdef"], Err(EditFault::WindowLarge)),
@@ -156,7 +157,7 @@ fn text_is_limited_with_that_of_other_files(rt: HostRuntime) -> Result<(), Alloc
     Ok(())
 }
 
-/// How many records and bytes of text the fresh chunks of a change have: the edit read and copied these and no others.
+/// How many records and bytes of text the fresh chunks of a change have: only these were read and copied by the edit.
 fn cut_again(document: &Document, change: &Change) -> (usize, u64) {
     let mut count = 0usize;
     let mut size = 0u64;
@@ -198,7 +199,7 @@ struct Plain {
     ends: Vec<usize>,
 }
 
-/// The number of records in the first chunks, so many.
+/// The number of records in the first `chunks` chunks.
 fn reach(ends: &[usize], chunks: usize) -> usize {
     if chunks == 0 || chunks > ends.len() {
         return 0;
@@ -246,7 +247,7 @@ impl Plain {
         Ok(text)
     }
 
-    /// What the change from these chunks to those of `news` is, by trying each number of chunks that go.
+    /// The change from these chunks to those of `news`, found by trying each number of chunks that go.
     fn change(&self, at: usize, del: usize, ins: usize, news: &Plain) -> Option<Change> {
         let first = if at == 0 {
             0
@@ -302,7 +303,7 @@ pub fn drawn(alloc: Global, state: &mut u64, most: u64) -> Result<Records, Alloc
     Ok(records)
 }
 
-/// A place and a number of records from there on, mostly few, in a document of so many records.
+/// A place and a number of records from there on, mostly few, in a document of `count` records.
 fn drawn_place(state: &mut u64, count: usize, few: u64) -> (u32, u32)
     requires { 0 < few }
 {

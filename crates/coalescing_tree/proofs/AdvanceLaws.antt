@@ -1,4 +1,4 @@
--- What an advance makes of a tree over which no draft stands.
+-- What an advance makes of a tree without a draft.
 use Rattle.std.proofs.Common.{◌≡◌, ℕ, ◌-◌, ◌*◌, ◌≤◌, Bool, true, false, List, [], ◌++◌, length, take, slice_index_or, Option, Some, None, refl, sym, ap, subst, ◌∙◌, inl, inr, arith, append-nil, length-append}
 use Rattle.std.specs.List.{All}
 use Rattle.std.proofs.lemmas.List.{take_all, take-append-le, map-append}
@@ -29,7 +29,7 @@ use Rattle.coalescing_tree.proofs.SettleLaws.{no-draft-pins, few-undrafted}
 pub leaves-of-setting : {V : Type 0} (good : ℕ → V → Type 0) (setting : ℕ) (sheets : List (SheetOf V)) → All (λ (s : SheetOf V). IsLeaf good s.setting s) sheets → All (λ (s : SheetOf V). s.setting ≡ setting) sheets → All (IsLeaf good setting) sheets
 leaves-of-setting good setting sheets leaves same = λ k d lt. subst (λ (n : ℕ). IsLeaf good n (slice_index_or sheets k d)) (same k d lt) (leaves k d lt)
 
--- Whether leaves are loose, where they are some.
+-- Whether leaves are loose, if there are leaves.
 abbrev loose-of : {V : Type 0} → Option (Leaves V) → Bool
 loose-of None = false
 loose-of (Some l) = l.loose
@@ -40,7 +40,7 @@ module _ {J V M : Type 0} where
   no-draft sheets top (Some Same) none = absurd (let no : Some (leaves_of sheets top) ≡ None = none in cc)
   no-draft sheets top (Some (Merged made)) none = absurd (let no : Some (leaves_of sheets (last_of made.items)) ≡ None = none in cc)
 
--- A tree of these parts, over which no draft stands.
+-- A tree of these parts, without a draft.
 module _ {J V M : Type 0} (good : ℕ → V → Type 0) (joined : ℕ → V → V → V) (digest_of : PairOf V → List ℕ) (setting places : ℕ) (sheets : List (SheetOf V)) (standing : ℕ) (top : Option (Hold J V M)) (draft : Option (Draft J V M))
     (seen : Seen V) (is : seen_of digest_of setting places sheets standing top draft ≡ seen) (sound : IsSound good joined setting sheets standing top draft) (none : seen.tree.draft ≡ None) where
   pub undrafted : draft ≡ None
@@ -64,7 +64,7 @@ module _ {J V M : Type 0} (good : ℕ → V → Type 0) (joined : ℕ → V → 
   pub seen-few : length seen.pins ≤ length seen.tree.leaves.tables - 1
   seen-few = subst (λ (t : Seen V). length t.pins ≤ length t.tree.leaves.tables - 1) is (few-undrafted good joined digest_of setting places sheets standing top draft sound undrafted)
 
-  -- Its leaves are as before.
+  -- Its leaves are unchanged.
   module _ (same : List (SheetOf V)) (as_before : same ≡ sheets) where
     pub kept-sound : IsSound good joined setting same standing top draft
     kept-sound = subst (λ (ss : List (SheetOf V)). IsSound good joined setting ss standing top draft) (sym as_before) sound
@@ -78,7 +78,7 @@ module _ {J V M : Type 0} (good : ℕ → V → Type 0) (joined : ℕ → V → 
     pub kept-loose : (Meets : Type 0) → LooseOnlyIf Meets seen.tree (seen_of digest_of setting places same standing top draft).tree
     kept-loose Meets l some loose = absurd (let no : None ≡ Some l = ap (λ (o : Option (Draft J V M)). draft_of same top o) (sym undrafted) ∙ some in cc)
 
-  -- And what its caller holds beyond its pins.
+  -- And so is what its caller holds beyond its pins.
   module _ (u w : CallerView) (covered : Covered u seen.pins) where
     kept-beside : Balanced u [] w [] → Balanced u seen.pins w seen.pins
     kept-beside nothing =
@@ -102,7 +102,7 @@ module _ {J V M : Type 0} (good : ℕ → V → Type 0) (joined : ℕ → V → 
       pub grown-covered : Covered w (some_pins digest_of top ++ draft_pins digest_of (Some made))
       grown-covered = both.1
 
-  -- Fresh leaves stand behind its leaves.
+  -- Fresh leaves come after its leaves.
   module _ (all fresh : List (SheetOf V)) (grown : all ≡ sheets ++ fresh) where
     pub grown-within : standing ≤ length all
     grown-within = let n = all-stand in let l = ap length grown in let m = length-append sheets fresh in omega (arith, n, l, m)
@@ -110,7 +110,7 @@ module _ {J V M : Type 0} (good : ℕ → V → Type 0) (joined : ℕ → V → 
     pub grown-taken : take standing all ≡ take standing sheets
     grown-taken = let n = all-stand in ap (take standing) grown ∙ take-append-le standing sheets fresh (omega (arith, n))
 
-    -- The leaves again, where the fresh ones are cut off.
+    -- The leaves before, if the fresh ones are cut off.
     pub grown-cut : take standing all ≡ sheets
     grown-cut = grown-taken ∙ all-taken
 
@@ -124,7 +124,7 @@ module _ {J V M : Type 0} (good : ℕ → V → Type 0) (joined : ℕ → V → 
           (All-append (IsLeaf good setting) sheets fresh sound.leaves_are
           (leaves-of-setting good setting fresh leaves (subst (λ (n : ℕ). All (λ (s : SheetOf V). s.setting ≡ n) fresh) (sym (ap (λ (t : Seen V). t.tree.setting) is)) settings)))
 
-      -- So with the setting of a job, and with the leaves and the top as they are read.
+      -- The same with the setting of a job, and with the leaves and the top as they are read.
       module _ (other : ℕ) (set : other ≡ seen.tree.setting) (read : List (SheetOf V)) (is_read : read ≡ all) where
         set-is : setting ≡ other
         set-is = ap (λ (t : Seen V). t.tree.setting) is ∙ sym set

@@ -19,7 +19,7 @@ use Rattle.coalescing_tree.specs.Growing.{seen_of, leaves_of, draft_of, draft_pi
 use Rattle.coalescing_tree.specs.declared.draft.Draft.{Draft}
 use Rattle.coalescing_tree.proofs.TopLaws.{last-push}
 
--- Pins in front of the last ones are given up.
+-- Pins before the last ones are given up.
 module _ (u v : CallerView) (old rest top : List PinName) (gone : (ps : List PinName) → Balanced u (rest ++ ps) v ps) where
   pub middle-balanced : Balanced u (old ++ (rest ++ top)) v (old ++ top)
   middle-balanced = balanced-from u v (old ++ (rest ++ top)) (rest ++ (old ++ top)) (old ++ top) (λ s id.
@@ -35,7 +35,7 @@ module _ (u v : CallerView) (old rest top : List PinName) (gone : (ps : List Pin
       (all-given-later u v (old ++ top) middle-balanced.later
       (given-append u old top (given-left u old (rest ++ top) covered.given) (given-right u rest top (given-right u old (rest ++ top) covered.given))))
 
--- Pins in front of all others are given up.
+-- Pins before all others are given up.
 module _ (v w : CallerView) (old top : List PinName) (gone : (ps : List PinName) → Balanced v (old ++ ps) w ps) where
   pub first-covered : Covered v (old ++ top) → Covered w top
   first-covered covered = covered-then v w (old ++ top) top covered (gone top) (all-given-later v w top (gone top).later (given-right v old top covered.given))
@@ -51,11 +51,11 @@ module _ {J V M : Type 0} (digest_of : PairOf V → List ℕ) where
   all_pins-pop hs rest None is = ap (all_pins digest_of) (is ∙ append-nil rest) ∙ sym (append-nil (all_pins digest_of rest))
   all_pins-pop hs rest (Some h) is = ap (all_pins digest_of) is ∙ all_pins-push digest_of rest h
 
-  -- A tree over which no draft stands has the top's pins alone.
+  -- A tree without a draft has the top's pins alone.
   pub no-draft-pins : (top : Option (Hold J V M)) (draft : Option (Draft J V M)) → draft ≡ None → some_pins digest_of top ++ draft_pins digest_of draft ≡ some_pins digest_of top
   no-draft-pins top draft none = ap (λ (o : Option (Draft J V M)). some_pins digest_of top ++ draft_pins digest_of o) none ∙ append-nil (some_pins digest_of top)
 
-  -- A top has a pin only over two leaves and more.
+  -- A top has a pin only over two or more leaves.
   pub few-pins : (joined : ℕ → V → V → V) (setting : ℕ) (sheets : List (SheetOf V)) (top : Option (Hold J V M)) → IsTop joined setting sheets top → length (some_pins digest_of top) ≤ length (tables_of sheets) - 1
   few-pins joined setting sheets None is = omega arith
   few-pins joined setting sheets (Some (Pinned p)) is = let m = length-map sheets (λ (s : SheetOf V). s.entries) in let n = is.0 in omega (arith, m, n)
@@ -66,7 +66,7 @@ module _ {J V M : Type 0} (good : ℕ → V → Type 0) (joined : ℕ → V → 
   pub few-undrafted : draft ≡ None → length (some_pins digest_of top ++ draft_pins digest_of draft) ≤ length (tables_of (take standing sheets)) - 1
   few-undrafted none = subst (λ (ps : List PinName). length ps ≤ length (tables_of (take standing sheets)) - 1) (sym (no-draft-pins digest_of top draft none)) (few-pins digest_of joined setting (take standing sheets) top sound.top_is)
 
-  -- Its root, as it is read from the leaves that stand and the top.
+  -- Its root, as it is read from the leaves and the top.
   pub root-read : (seen : Seen V) (all : List (SheetOf V)) (o : Option (Hold J V M)) (root : Option (SheetOf V)) → seen_of digest_of setting places sheets standing top draft ≡ seen → all ≡ sheets → o ≡ top
       → ((s : ℕ) → All (IsLeaf good s) (take standing all) → IsTop joined s (take standing all) o → IsMergeOver joined s (tables_of (take standing all)) root) → IsRoot joined seen.tree root
   root-read seen all o root is whole same over =
@@ -76,7 +76,7 @@ module _ {J V M : Type 0} (good : ℕ → V → Type 0) (joined : ℕ → V → 
       (subst (λ (ss : List (SheetOf V)). All (IsLeaf good setting) (take standing ss)) (sym whole) (All-take (IsLeaf good setting) standing sheets sound.leaves_are))
       (subst (λ (ss : List (SheetOf V)). IsTop joined setting (take standing ss) o) (sym whole) (subst (λ (p : Option (Hold J V M)). IsTop joined setting (take standing sheets) p) (sym same) sound.top_is))))
 
-  -- Its draft of merges becomes the leaves: it stands over all sheets, with the draft's last merge as its top.
+  -- Its draft of merges becomes the leaves: it is over all sheets, with the draft's last merge as its top.
   module _ (made : List (Hold J V M)) (over : IsTop joined setting sheets (last_of made)) (shows : draft_of sheets top draft ≡ Some (leaves_of sheets (last_of made)))
       (all : ℕ) (new : Option (Hold J V M)) (after : Option (Draft J V M)) (counted : all ≡ length sheets) (last : new ≡ last_of made) (none : after ≡ None) where
     whole-sheets : take all sheets ≡ sheets
@@ -98,7 +98,7 @@ module _ {J V M : Type 0} (good : ℕ → V → Type 0) (joined : ℕ → V → 
         ∙ (ap (λ (o : Option (Leaves V)). settled_by (seen_of digest_of setting places sheets standing top draft).tree o) (sym shows)
         ∙ ap (λ (t : Seen V). settled t.tree) seen-is)))
 
-  -- Its draft of merges is dropped: the leaves that stand are all sheets again.
+  -- Its draft of merges is dropped: the leaves before it are all sheets again.
   module _ (left : List (SheetOf V)) (after : Option (Draft J V M)) (cut : left ≡ take standing sheets) (none : after ≡ None) where
     left-length : length left ≡ standing
     left-length = let c = ap length cut in let n = length-take standing sheets in let w = sound.within in omega (arith, c, n, w)

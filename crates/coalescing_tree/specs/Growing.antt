@@ -1,4 +1,5 @@
--- What a coalescing tree is made of: its leaves, those of a draft at the end, the top over those that stand, and the draft.
+-- The parts of a coalescing tree: its leaves, with those of a draft at the end, the top over those without the draft's,
+-- and the draft.
 use Rattle.std.specs.Prelude.{◌≡◌, ℕ, ◌-◌, ◌<◌, ◌≤◌, Bool, false, List, [], ◌++◌, length, take, slice_get, All, Option, Some, None}
 use Rattle.sheets.specs.Sheets.{SheetOf}
 use Rattle.sheets.specs.United.{tables_of}
@@ -22,25 +23,27 @@ module _ {J V M : Type 0} where
   abbrev pub last_of : List (Hold J V M) → Option (Hold J V M)
   last_of holds = slice_get holds (length holds - 1)
 
-  -- The top over leaves: of two and more the merge of all of them, and else none.
+  -- The top over leaves: the merge of all if they are two or more, otherwise none.
   abbrev pub IsTop : (ℕ → V → V → V) → ℕ → List (SheetOf V) → Option (Hold J V M) → Type 0
   IsTop joined setting sheets None = length sheets ≤ 1
   IsTop joined setting sheets (Some hold) = (2 ≤ length sheets) × IsMergeOver joined setting (tables_of sheets) (Some (sheet_of hold))
 
-  -- Where no leaf came, all leaves stand; else the last merge of the draft is the top over all of them.
+  -- If no leaf came, there are only the leaves before; otherwise the last merge of the draft is the top over all of
+  -- them.
   abbrev pub IsSoundDraft : (ℕ → V → V → V) → ℕ → List (SheetOf V) → ℕ → Option (Draft J V M) → Type 0
   IsSoundDraft joined setting sheets standing None = standing ≡ length sheets
   IsSoundDraft joined setting sheets standing (Some Same) = standing ≡ length sheets
   IsSoundDraft joined setting sheets standing (Some (Merged made)) = (standing < length sheets) × IsTop joined setting sheets (last_of made.items)
 
-  -- The leaves are of the setting, and the tops of those that stand and of all of them are what they are to be.
+  -- The leaves are of the setting, and there are the right tops, over the leaves without the draft's and over all of
+  -- them.
   pub record IsSound (good : ℕ → V → Type 0) (joined : ℕ → V → V → V) (setting : ℕ) (sheets : List (SheetOf V)) (standing : ℕ) (top : Option (Hold J V M)) (draft : Option (Draft J V M)) : Type 0 where
     pub leaves_are : All (IsLeaf good setting) sheets
     pub within : standing ≤ length sheets
     pub top_is : IsTop joined setting (take standing sheets) top
     pub draft_is : IsSoundDraft joined setting sheets standing draft
 
-  -- Whether the top of a draft is loose, where leaves came.
+  -- Whether the top of a draft is loose, if leaves came.
   abbrev pub draft_loose : Draft J V M → Bool
   draft_loose Same = false
   draft_loose (Merged made) = some_loose (last_of made.items)
@@ -49,7 +52,7 @@ module _ {J V M : Type 0} where
   abbrev pub leaves_of : List (SheetOf V) → Option (Hold J V M) → Leaves V
   leaves_of sheets top = record { first = 0; tables = tables_of sheets; loose = some_loose top; shape = no_shape }
 
-  -- The leaves of a draft: where none came, those under the top that stands.
+  -- The leaves of a draft: if none came, those under the present top.
   abbrev pub draft_of : List (SheetOf V) → Option (Hold J V M) → Option (Draft J V M) → Option (Leaves V)
   draft_of sheets top None = None
   draft_of sheets top (Some Same) = Some (leaves_of sheets top)
@@ -62,7 +65,7 @@ module _ {J V M : Type 0} where
     draft_pins (Some Same) = []
     draft_pins (Some (Merged made)) = all_pins digest_of made.items
 
-    -- A tree as it is seen.
+    -- The model of a tree.
     abbrev pub seen_of : ℕ → ℕ → List (SheetOf V) → ℕ → Option (Hold J V M) → Option (Draft J V M) → Seen V
     seen_of setting places sheets standing top draft = record {
       tree = record { setting = setting; places = places; leaves = leaves_of (take standing sheets) top; draft = draft_of sheets top draft };

@@ -2,11 +2,11 @@
 use job_laws::Job;
 use tree_laws::Hold;
 
-/// The merges that a draft's fresh leaves asked for.
+/// The merges of a draft's fresh leaves.
 #[derive(Drop)]
 pub(crate) enum Draft<J: Job> {
     /// No leaf came.
     Same,
-    /// In the order in which they were made; the last one is over all leaves.
+    /// The merges in the order in which they were made; the last one is over all leaves.
     Merged(Vec<Hold<J>>),
 }

@@ -1,4 +1,4 @@
-//! The merges of an advance. Room for all of them is taken first, so that none is lost once it is pinned.
+//! The merges of an advance. Room for all of them is reserved first, so that none is lost once it is pinned.
 ghost use Rattle.std.specs.Prelude.{◌≡◌, ℕ, ◌-◌, ◌*◌, ◌<◌, ◌≤◌, true, List, [], length, take, vec_len, vec_capacity, All, Some, IfOk, OnOk, OnErr, option_copied};
 ghost use Rattle.job_laws.specs.Counted.{RoseBy};
 ghost use Rattle.sheets.specs.United.{tables_of};
@@ -19,7 +19,8 @@ use std::alloc::{AllocError, Global};
 use std::sync::Wait;
 use tree_laws::{Hold, MergeRecipe, let_all_go, merge_through};
 
-/// The draft over all leaves, of which so many stand under the top already. Where it fails, no pin of its is left.
+/// Makes the draft over all leaves, of which the first `standing` are under the top already. If it fails, it leaves no
+/// pin.
 pub(crate) fn draft_over<J: Job, W: Wait>(
     alloc: Global,
     rt: &W,
@@ -61,8 +62,8 @@ pub(crate) fn draft_over<J: Job, W: Wait>(
     }
 }
 
-/// Puts the merges that the leaves from `standing` on ask for into `made`, in the order in which it makes them: the last
-/// one is over all leaves. Where it fails, those that it made before stand there.
+/// Puts the merges of the leaves from `standing` on into `made`, in the order in which it makes them: the last one is
+/// over all leaves. If it fails, those made before are in `made`.
 fn grow<J: Job, W: Wait>(
     alloc: Global,
     rt: &W,

@@ -8,7 +8,7 @@ use job_laws::Job;
 use sheets::Sheet;
 use tree_laws::Hold;
 
-/// The merge over the leaves: the top one's sheet, and where there is none, that of the only leaf.
+/// The merge over the leaves: the sheet of the top merge, or of the only leaf.
 pub(crate) fn root_over<'a, J: Job>(
     leaves: &'a [Sheet<J>],
     top: Option<&'a Hold<J>>,

@@ -1,4 +1,4 @@
-//! The leaves of a tree are the sheets that others hold too.
+//! The leaves of a tree are sheets that others hold too.
 ghost use Rattle.std.specs.Prelude.{◌≡◌, ◌++◌, ◌∷◌, [], All, OnOk, OnErr};
 ghost use Rattle.tree_laws.specs.Trees.{IsLeaf};
 
@@ -6,7 +6,7 @@ use job_laws::Job;
 use sheets::Sheet;
 use std::alloc::AllocError;
 
-/// Puts shares of all fresh sheets behind the leaves, or none.
+/// Appends shares of all fresh sheets to the leaves, or none.
 pub(crate) fn share_all<J: Job>(
     leaves: &mut Vec<Sheet<J>>,
     fresh: &[Sheet<J>],

@@ -17,11 +17,11 @@ use tree_laws::{Hold, MergeRecipe, Tree, let_all_go, let_some_go};
 pub struct CoalescingTree<J: Job> {
     setting: u32,
     places: u32,
-    // Those of a draft at the end.
+    // The leaves, with those of a draft at the end.
     leaves: Vec<Sheet<J>>,
-    // How many of them are no draft's.
+    // How many of them are not of a draft.
     standing: usize,
-    // The merge over these, where they are two and more.
+    // The merge over these, if they are two or more.
     top: Option<Hold<J>>,
     draft: Option<Draft<J>>,
 }
@@ -170,7 +170,7 @@ impl<J: Job> Tree<J> for CoalescingTree<J> {
         _run: u64,
         _m: &mut J::Meter,
     ) -> Result<(), AllocError> {
-        // A field that is read brings what is known of the tree.
+        // Reading a field gives the prover the invariant of the tree.
         let _top = &self.top;
         Ok(())
     }

@@ -10,7 +10,7 @@ use pin_table::{Caller, Memo, MemoFault};
 use std::marker::Model;
 use std::sync::Wait;
 
-/// A caller that sweeps: an entry that nobody holds is kept for `keep` runs after the last that used it.
+/// A caller that sweeps: an entry that nobody holds is kept for `keep` runs after the last run that used it.
 #[derive(Drop)]
 pub struct Collector<R: Recipe> {
     caller: Caller<R>,
@@ -33,14 +33,15 @@ impl<R: Recipe> Collector<R> {
         Collector { caller, keep }
     }
 
-    /// The run below which an entry that nobody holds goes: `run - keep`, or 0 where `keep` is larger.
+    /// The horizon of a sweep, `run - keep`, or 0 if `keep` is larger: entries that nobody holds and that were last
+    /// used below it are dropped.
     pub fn horizon(&self, run: u64) -> u64
         ensures { result ≡ horizon_of self.now.keep run }
     {
         run.saturating_sub(self.keep)
     }
 
-    /// The caller again, as `Memo::close` wants it.
+    /// Gives the caller back, as `Memo::close` needs it.
     pub fn into_caller(self) -> Caller<R>
         ensures { result ≡ self.caller }
     {
@@ -48,11 +49,13 @@ impl<R: Recipe> Collector<R> {
         caller
     }
 
-    /// One sweep of the shard at the horizon of the run. It answers how many entries went. It may wait for its turn.
+    /// One sweep of the shard at the horizon of the run. It returns how many entries were dropped. It walks over the
+    /// shard's entries once, and may block.
     ///
     /// # Errors
     ///
-    /// `Worn` where the ticket of the shard's lock stood at 2^62 or more at this call's check, and `Mem`. Nothing was swept.
+    /// `Worn` if this call's check found the ticket of the shard's lock at 2^62 or more; `Mem` out of memory. Nothing
+    /// was swept.
     pub fn sweep_shard<W: Wait>(
         &mut self,
         rt: &W,

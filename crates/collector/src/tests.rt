@@ -1,4 +1,4 @@
-//! A collector beside one caller: horizons, and sweeps that spare what is held.
+//! A collector together with one caller: horizons, and sweeps that spare what is held.
 ghost use Rattle.std.specs.Prelude.{◌≡◌, ◌+◌, ◌<◌, replicate, vec_len, All};
 
 use super::*;
@@ -8,7 +8,7 @@ use pin_table::{Caller, Memo, MemoFault};
 use std::alloc::{AllocError, Global};
 use std::test::Fail;
 
-// A truth value for itself: a sweep asks nothing of the recipe.
+// A truth value for itself: a sweep does not use the recipe.
 #[derive(Drop)]
 struct Itself;
 

@@ -1,4 +1,4 @@
--- The pairs of records that stand end to end.
+-- The pairs of records end to end.
 use Rattle.std.proofs.Common.{◌≡◌, ℕ, List, [], ◌∷◌, ◌++◌, refl, sym, ap, ◌∙◌, append_assoc}
 use Rattle.definitions.specs.Tables.{HasGoodValues}
 use Rattle.definitions.specs.Answer.{pairs_of}

@@ -9,7 +9,7 @@ use Rattle.definitions.specs.Tables.{key_cmp, IsRising, value_at, joined_found, 
 use Rattle.definitions.proofs.TableLaws.{tied_keys, turned, below_chain, both, first, second, is_true, passes, same_tables, value_at-merged, IsRising-merged}
 
 module _ {V : Type 0} (join : V → V → V) where
-  -- whatever is below both lists is below their merge
+  -- what is below both lists is below their merge
   below-merge_into : (x : List ℕ) (e : List ℕ × V) (rest : List (List ℕ × V) → List (List ℕ × V)) → T (is_lt (key_cmp x e.0)) → ((u : List (List ℕ × V)) → T (below_all key_cmp x u) → T (below_all key_cmp x (rest u))) → (u : List (List ℕ × V)) → T (below_all key_cmp x u) → T (below_all key_cmp x (merge_into join e rest u))
   below-merge_into x e rest lt ih [] below = both _ _ lt (ih [] below)
   below-merge_into x e rest lt ih (f ∷ u) below =
@@ -28,7 +28,7 @@ module _ {V : Type 0} (join : V → V → V) where
       let less : key_cmp f.0 e.0 ≡ Less = turned e.0 f.0 Greater is in
       both _ _ (subst (λ o. T (is_lt o)) (sym less) tt) (below_chain f.0 e.0 t less below)
 
-  -- a key below all is not there
+  -- a key below all is not among them
   absent-below : (q k : List ℕ) (es : List (List ℕ × V)) → q ≡ k → T (below_all key_cmp k es) → value_at es q ≡ None
   absent-below q k [] same below = refl
   absent-below q k (e ∷ es) same below = rw (subst (λ x. eq_by_cmp key_cmp x e.0 ≡ false) (sym same) (not_eq (key_cmp k e.0) (first _ _ below))) (absent-below q k es same (second _ _ below))

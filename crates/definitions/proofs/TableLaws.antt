@@ -23,7 +23,7 @@ tied_keys q k e = finite.slice_cmp-IsAntisymmetric finite.nat_cmp-IsAntisymmetri
 pub eq_itself : (k : List ℕ) → eq_by_cmp key_cmp k k ≡ true
 eq_itself k = ap is_eq (tied_itself nat_list_cmp_total k)
 
--- the order of two keys the other way round
+-- the order of two keys, reversed
 pub turned : (x y : List ℕ) (o : Ordering) → key_cmp x y ≡ o → key_cmp y x ≡ ordering_reverse o
 turned x y o is = nat_list_cmp_total.antisymm y x ∙ ap ordering_reverse is
 
@@ -74,12 +74,12 @@ module _ {V : Type 0} where
   value_at-tabulate f [] q = refl
   value_at-tabulate f (k ∷ ks) q = entry_step f k q (tabulate f ks) _ _ (f k) refl refl (value_at-tabulate f ks q)
 
-  -- the keys that stand in the pairs
+  -- the keys that are in the pairs
   pub listed-keys : (es : List (List ℕ × V)) (q : List ℕ) → list_any (eq_by_cmp key_cmp q) (keys_of es) ≡ is_some (value_at es q)
   unfolding keys_of
   listed-keys es q = sym (finite.contains_key-keys (finite.from_entries es) q) ∙ ap is_some (finite.get-from_entries nat_list_cmp_total es q)
 
-  -- the first value, or else the other
+  -- the first value, or else the second
   abbrev pub either : Option V → Option V → Option V
   either None b = b
   either (Some a) b = Some a
@@ -103,7 +103,7 @@ module _ {V : Type 0} (f : List ℕ → Option V) where
   only_where true o h = refl
   only_where false o h = sym (h refl)
 
-  -- a table of f over the keys of es has what f gives, where f gives nothing at other keys
+  -- a table of f over the keys of es has what f gives, if f gives nothing at other keys
   pub value_at-over_keys : {W : Type 0} (es : List (List ℕ × W)) → ((q : List ℕ) → value_at es q ≡ None → f q ≡ None) → (q : List ℕ) → value_at (tabulate f (keys_of es)) q ≡ f q
   value_at-over_keys es others q = value_at-tabulate f (keys_of es) q ∙ rw listed-keys (only_where _ (f q) (λ h. others q (found_or_none _ h)))
 
@@ -128,12 +128,12 @@ module _ {V : Type 0} (f : List ℕ → Option V) where
   unfolding keys_of
   IsRising-over_keys es = is_true _ (rising_tabulate _ (finite.entries_sorted (finite.from_entries {R = key_cmp} es)))
 
--- two rising tables that answer alike are equal
+-- two rising tables with the same values are equal
 pub same_tables : {V : Type 0} (t u : List (List ℕ × V)) → IsRising t → IsRising u → ((q : List ℕ) → value_at t q ≡ value_at u q) → t ≡ u
 same_tables t u a b = same_entries key_cmp nat_list_cmp_total (finite.slice_cmp-IsAntisymmetric finite.nat_cmp-IsAntisymmetric) t u (passes _ a) (passes _ b)
 
 module _ {V : Type 0} (join : V → V → V) where
-  -- no value stands with a key that the pairs lack
+  -- a key that the pairs lack has no value
   reduced_absent : (es : List (List ℕ × V)) (q : List ℕ) → value_at es q ≡ None → reduced join es q ≡ None
   reduced_absent es q h = ap (joined_all join) (no_values es h)
     where
@@ -173,7 +173,7 @@ module _ {V : Type 0} (join : V → V → V) where
   joined_more [] v = refl
   joined_more (w ∷ ws) v = ap Some (fold_more w v ws)
 
-  -- what pairs reduce to with one more
+  -- what pairs reduce to, with one pair more
   pub reduced_push : (ps : List (List ℕ × V)) (p : List ℕ × V) (q : List ℕ) → reduced join (ps ++ p ∷ []) q ≡ cond (eq_by_cmp key_cmp q p.0) (joined_found join (reduced join ps q) (Some p.1)) (reduced join ps q)
   reduced_push ps p q =
       ap (joined_all join) (values_with-append ps (p ∷ []) q)
@@ -182,7 +182,7 @@ module _ {V : Type 0} (join : V → V → V) where
         | false ↦ ap (joined_all join) (append-nil (values_with ps q))
       ]
 
-  -- rising entries with what the pairs reduce to are their table
+  -- rising entries with what the pairs reduce to be their table
   pub is_table : (t ps : List (List ℕ × V)) → IsRising t → ((q : List ℕ) → value_at t q ≡ reduced join ps q) → t ≡ table_of join ps
   is_table t ps rises is = same_tables t (table_of join ps) rises (IsRising-table ps) (λ q. is q ∙ sym (value_at-table ps q))
 
@@ -280,7 +280,7 @@ module _ {V : Type 0} {good : V → Type 0} {join : V → V → V} (laws : IsGoo
   unfolding merged GoodFound
   good-merged t u gt gu = good-tabulate (λ k. joined_found join (value_at t k) (value_at u k)) (λ k v is. good-found (value_at t k) (value_at u k) (found-value_at t k gt) (found-value_at u k gu) v is) (keys_of (t ++ u))
 
-  -- merging is commutative on tables of good values, where joining is on good values
+  -- merging is commutative on tables of good values, if joining is on good values
   pub merged_comm : ((a b : V) → good a → good b → join a b ≡ join b a) → (t u : List (List ℕ × V)) → HasGoodValues good t → HasGoodValues good u → merged join t u ≡ merged join u t
   unfolding GoodFound
   merged_comm comm t u gt gu = same_tables _ _ (IsRising-merged join t u) (IsRising-merged join u t) (λ q.

@@ -1,5 +1,5 @@
--- The answer of a job over records: what a program writes that maps, groups and reduces them from nothing.
--- `emits` gives the pairs of a record, `joined` joins two values of a key, and `text` gives the lines of a key.
+-- The answer of a job over records: what mapping, grouping and reducing them from nothing gives. `emits` gives the
+-- pairs of a record, `joined` joins two values of a key, and `text` gives the lines of a key.
 use Rattle.std.specs.Prelude.{ℕ, List}
 use Rattle.std.specs.List.{flat_map}
 use Rattle.definitions.specs.Tables.{table_of}

@@ -1,11 +1,11 @@
--- The limits of what a program takes, each with its unit. `crates/definitions/src/lib.rt` has the same numbers for code.
+-- The limits of the program, each with its unit. `crates/definitions/src/lib.rt` has the same numbers for code.
 use Rattle.std.specs.Prelude.{ℕ}
 
 -- The bytes of a record.
 abbrev pub most_record : ℕ
 most_record = 65535
 
--- The bytes of text that a window holds, and that the record lines of one command have, each line with its LF.
+-- The bytes of text in a window, and in the record lines of one command, each line with its LF.
 abbrev pub most_text : ℕ
 most_text = 268435456
 
@@ -17,7 +17,7 @@ most_buckets = 65536
 abbrev pub most_files : ℕ
 most_files = 65536
 
--- The bytes of a script, and one more.
+-- One more than the bytes of a script.
 abbrev pub most_script : ℕ
 most_script = 4294967296
 

@@ -10,7 +10,7 @@ is_digit b = nat_le 48 b && nat_le b 57
 abbrev pub digits_value : List ℕ → ℕ
 digits_value bytes = fold (λ n b. n * 10 + (b - 48)) 0 bytes
 
--- Two bytes or more, of which the first is 0.
+-- There are two bytes or more, and the first is 0.
 abbrev pub leads_by_zero : List ℕ → Bool
 leads_by_zero [] = false
 leads_by_zero (b ∷ []) = false

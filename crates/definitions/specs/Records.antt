@@ -6,7 +6,7 @@ use Rattle.definitions.specs.Limits.{most_record}
 abbrev pub IsRecord : List ℕ → Type 0
 IsRecord bytes = (length bytes ≤ most_record) × All (λ b. b ≢ 10) bytes
 
--- Each of these is a record.
+-- They are all records.
 abbrev pub AllRecords : List (List ℕ) → Type 0
 AllRecords records = All IsRecord records
 
@@ -19,12 +19,12 @@ text_of (r ∷ rs) = r ++ 10 ∷ text_of rs
 abbrev pub is_word_byte : ℕ → Bool
 is_word_byte b = (nat_le 65 b && nat_le b 90) || (nat_le 97 b && nat_le b 122) || (nat_le 48 b && nat_le b 57)
 
--- A word that has ended comes before the words behind it, unless it has no bytes.
+-- A word that has ended comes before the words after it, unless it is empty.
 abbrev pub word_before : List ℕ → List (List ℕ) → List (List ℕ)
 word_before [] words = words
 word_before (b ∷ bs) words = (b ∷ bs) ∷ words
 
--- The words of bytes behind the prefix of a word.
+-- The words of bytes that follow the prefix of a word.
 abbrev pub words_behind : List ℕ → List ℕ → List (List ℕ)
 words_behind prefix [] = word_before prefix []
 words_behind prefix (b ∷ bs) = if is_word_byte b then words_behind (prefix ++ b ∷ []) bs else word_before prefix (words_behind [] bs)

@@ -1,12 +1,12 @@
-//! The words that the contracts of several crates speak in, and their laws: records and their text, bytes that are
-//! told or not told, counts that rose, and what map, group and reduce make of records. Start at `specs/Records.antt`,
-//! then `specs/Tables.antt`. The code is the limits alone: a definition says what a call means, and a proof stands on it.
+//! The terms that the contracts of several crates share, and their laws: records and their text, bytes that are
+//! observable or not, counts that increased, and the result of mapping, grouping and reducing records. Start at
+//! `specs/Records.antt`, then `specs/Tables.antt`. The only code is the limits.
 #![tactic(auto)]
 
 /// The most bytes of a record.
 pub const MOST_RECORD: usize = 65_535;
 
-/// The most bytes of text that a window holds, and that the record lines of one command have, each line with its LF.
+/// The most bytes of text in a window, and in the record lines of one command, each line with its LF.
 pub const MOST_TEXT: usize = 268_435_456;
 
 /// The most buckets of a window that has no places.
@@ -15,7 +15,7 @@ pub const MOST_BUCKETS: usize = 65_536;
 /// The most files of a window.
 pub const MOST_FILES: usize = 65_536;
 
-/// How many bytes a script may have at the most, and one more.
+/// One more than the most bytes of a script.
 pub const MOST_SCRIPT: u64 = 4_294_967_296;
 
 /// The most parts into which keys are divided.

@@ -1,4 +1,4 @@
--- A level over one that has its draft: what stays there stays here, and all else is made anew.
+-- A level over one that has its draft: what stays there stays here, and everything else is made again.
 use Rattle.std.proofs.Common.{◌≡◌, ◌⊎◌, inl, inr, ℕ, suc, zero, ◌+◌, ◌-◌, ◌*◌, ◌/◌, ◌%◌, ◌^◌, ◌<◌, ◌≤◌, arith, sym, ap, ◌∙◌, refl, subst, List, [], ◌∷◌, length, get_or, Option, Some, None}
 use native.Mathlib.Nat.{pow-suc}
 use Rattle.std.specs.List.{slice_get, AllZip}
@@ -27,7 +27,7 @@ get-places_from low (suc n) i lt = elim (cases_eq i n) [
       get_or_append_left (places_from low n) ((low + n) ∷ []) 0 i (let h = length-places_from low n in omega (arith, h, less)) ∙ get-places_from low n i less
 ]
 
--- The item that stands beside another one.
+-- The item that is next to another one.
 pub zip-at : {Y : Type 0} (R : ℕ → Y → Type 0) (xs : List ℕ) (ys : List Y) → AllZip R xs ys → (i : ℕ) → i < length xs → (y : Y) × (slice_get ys i ≡ Some y) × R (get_or xs i 0) y
 zip-at R [] ys z i lt = absurd (omega (arith, lt))
 zip-at R (x ∷ xs) [] z i lt = absurd z
@@ -313,7 +313,7 @@ module _ {J V M : Type 0} (joined : ℕ → V → V → V) (folded k : ℕ) (row
         omega (arith, rl, nil);
   }
 
-  -- A place below one that stays: what stands there stays too.
+  -- A place below one that stays: what is there stays too.
   below-stays : (t : ℕ) → ahead.from ≡ ahead.low + 2 * t → (q : ℕ) → above.low ≤ q → q < above.mid → ((i : ℕ) → i < length above.places → get_or above.places i 0 ≡ q → ⊥) → (place : ℕ) → (place ≡ 2 * q) ⊎ (place ≡ 2 * q + 1) → part_at after place ≡ part_at row (place + 2 * t)
   below-stays t is q le lt off place which =
       let some : above.low < above.mid = omega (arith, le, lt) in

@@ -71,7 +71,7 @@ beyond-all low (p ∷ ps) all =
     let h = beyond-all low ps (λ k lt. all (suc k) (omega (arith, lt))) in
     omega (arith, e, h)
 
--- Of places that rise at most one does not lie beyond the first.
+-- Of rising places at most one is not beyond the first.
 pub rising-few : (low : ℕ) (ps : List ℕ) → IsStrictlyIncreasing ps → ((k : ℕ) → k < length ps → low ≤ get_or ps k 0) → length ps ≤ beyond low ps + 1
 rising-few low [] r all = omega arith
 rising-few low (p ∷ ps) r all =
@@ -97,7 +97,7 @@ beyond-parent low p le = elim (cases_lt (low / 2) (p / 2)) [
 pub beyond-itself : (low : ℕ) → beyond low (low ∷ []) ≡ 0
 beyond-itself low = beyond-no low low [] (omega arith)
 
--- The merges of one level, with those that its fresh nodes spare.
+-- The merges of one level, less those that its fresh nodes save.
 pub level-few : (count behind b low mid high above_mid above_high : ℕ) → count ≤ b + 1 → behind ≤ high / 2 - above_mid → above_high ≡ (high + 1) / 2 → (mid < high) × (above_mid ≡ mid / 2) ⊎ (mid ≡ high) × (above_mid ≡ above_high) → count + behind ≤ 2 + b + (high - mid) - (above_high - above_mid)
 level-few count behind b low mid high above_mid above_high a c g (inl h) = let m = h.1 in let x = h.0 in omega (arith, a, c, g, m, x)
 level-few count behind b low mid high above_mid above_high a c g (inr h) = let m = h.1 in let x = h.0 in omega (arith, a, c, g, m, x)

@@ -1,4 +1,4 @@
--- The draft of the leaves, from which the drafts of all levels are made.
+-- The draft of the leaves, from which those of all levels are made.
 use Rattle.std.proofs.Common.{◌≡◌, ◌⊎◌, inl, inr, ℕ, suc, zero, ◌+◌, ◌-◌, ◌*◌, ◌^◌, ◌<◌, ◌≤◌, ◌||◌, arith, sym, ap, ◌∙◌, refl, subst, List, [], ◌∷◌, ◌++◌, length, length-take, length-drop, take, drop, set, map, get_or, Bool, false}
 use Rattle.std.specs.List.{All}
 use Rattle.std.specs.List.Sorted.{IsStrictlyIncreasing}
@@ -164,7 +164,7 @@ module _ {J V M : Type 0} (row : Row J V M) (from : ℕ) (kept whole : Span) (ch
         (all-put P changed news (take (kept.high - kept.low) (drop (from - row.low) (sheets_of row.parts))) fresh (All-take P (kept.high - kept.low) (drop (from - row.low) (sheets_of row.parts)) (All-drop P (from - row.low) (sheets_of row.parts) old)))
         (All-drop P (length changed) news fresh))
 
-    -- Each key of a leaf stands in the tables of all of them.
+    -- Each key of a leaf is in the tables of all of them.
     pub begun-within : EachSheet (λ (s : SheetOf V). IsWithin s.entries (tables_of (sheets_of (parts_after row begun)))) (row_after row begun)
     begun-within = each-all (λ (s : SheetOf V). IsWithin s.entries (tables_of (sheets_of (parts_after row begun)))) (row_after row begun) (all-within (sheets_of (parts_after row begun)))
 
@@ -173,7 +173,7 @@ module _ {J V M : Type 0} (row : Row J V M) (from : ℕ) (kept whole : Span) (ch
       ap (λ (b : Bool). b || parts_loose {J = J} {V = V} {M = M} (map Shared (drop (length changed) news))) (shared-tight J V M (take (length changed) news))
       ∙ shared-tight J V M (drop (length changed) news)
 
--- The rows before and after the leaves' draft, where levels were added meanwhile.
+-- The rows before and after the draft of the leaves, if levels were added.
 module _ {J V M : Type 0} (joined : ℕ → V → V → V) (rows deep : ℕ → Row J V M) (same : (k : ℕ) → deep k ≡ rows k) (from : ℕ) (kept whole : Span) (changed : List ℕ) (news : List (SheetOf V)) (leaves : Ahead J V M) (is : leaves ≡ begun (rows 0) from kept whole changed news)
     (order : kept.low ≤ kept.high) (grown : kept.high ≤ whole.high) (moved : kept.low < kept.high → IsMoved (rows 0) from kept) (within : All (λ (p : ℕ). kept.low + p < kept.high) changed) (rising : IsStrictlyIncreasing changed) (count : kept.high + length news ≡ whole.high + length changed) where
   abbrev first : Row J V M
@@ -237,7 +237,7 @@ module _ {J V M : Type 0} (joined : ℕ → V → V → V) (rows deep : ℕ → 
           omega (arith, e, at, fits);
     }
 
--- The leaves that stay, where so many go.
+-- The leaves that stay, if a number of them leave.
 pub kept-whole : {X : Type 0} (low gone from a b : ℕ) (xs : List X) → from ≡ low + gone → b ≡ a + (length xs - gone) → take (b - a) (drop (from - low) xs) ≡ drop gone xs
 kept-whole low gone from a b xs f c =
     let d : from - low ≡ gone = omega (arith, f) in

@@ -66,13 +66,13 @@ climb-spent n m most k c b f g keys x y z few spent fresh made p q =
     let step : (2 + c) * (k + 1) ≡ (2 + c) * k + (2 + c) = grind arith in
     (n + m, omega (arith, few, spent, fresh, made, step), rose-more n m keys x y z p q)
 
--- The merges where no other level is made.
+-- The merges if no other level is made.
 pub climb-ended : (n most k height c f keys : ℕ) (x y : Counts) → k ≤ height → n + f ≤ most + (2 + c) * k → RoseBy 0 n (n * keys) x y → RoseBy 0 (most + (2 + c) * height) ((most + (2 + c) * height) * keys) x y
 climb-ended n most k height c f keys x y le spent p =
     let grow = mul-le-mul_left (2 + c) le in
     merged-within n (most + (2 + c) * height) keys x y (omega (arith, spent, grow)) p
 
--- The merges where the next level fails.
+-- The merges if the next level fails.
 pub climb-stopped : (n m most k height c b f keys : ℕ) (x y z : Counts) → k < height → b ≤ c → n + f ≤ most + (2 + c) * k → m ≤ 2 + b + f → RoseBy 0 n (n * keys) x y → RoseBy 0 m (m * keys) y z → RoseBy 0 (most + (2 + c) * height) ((most + (2 + c) * height) * keys) x z
 climb-stopped n m most k height c b f keys x y z lt few spent made p q =
     let step : (2 + c) * (k + 1) ≡ (2 + c) * k + (2 + c) = grind arith in
@@ -89,7 +89,7 @@ module _ {J V M : Type 0} where
     changed = refl;
   }
 
-  -- What there is of each level fits it.
+  -- The drafts so far fit their levels.
   pub all-fit : (folded k : ℕ) (rows : ℕ → Row J V M) (aheads : ℕ → Ahead J V M) → ((i : ℕ) → i ≤ k → IsAligned folded i (rows i) (aheads i)) → ((i : ℕ) → k < i → aheads i ≡ no_ahead) → (i : ℕ) → IsFit (rows i) (aheads i)
   all-fit folded k rows aheads aligned past i = elim (cases_lt k i) [
     | inl lt ↦ subst (IsFit (rows i)) (sym (past i lt)) (none-fit (rows i))

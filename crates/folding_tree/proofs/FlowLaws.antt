@@ -6,7 +6,7 @@ use Rattle.std.proofs.lemmas.Bool.{cases_eq}
 use Rattle.std.proofs.lemmas.List.{take_more, length_push, get_or_push, get_or_append_left, drop_more}
 use Rattle.record_text.specs.Shifts.{put_at}
 
--- One item more, beside one of the list that is gone through.
+-- One item more, paired with one of the list that is walked.
 pub zip-push : {X Y : Type 0} (R : X → Y → Type 0) (xs : List X) (ys : List Y) (x : X) (y : Y) → AllZip R xs ys → R x y → AllZip R (xs ++ x ∷ []) (ys ++ y ∷ [])
 zip-push R [] [] x y z r = (r, z)
 zip-push R [] (b ∷ ys) x y z r = absurd z

@@ -121,7 +121,7 @@ module _ {J V M : Type 0} where
         | inr back ↦ inr (or_right (parts_loose ahead.changed) (parts_loose ahead.fresh) back)
       ]
 
-  -- A node of the next rows is loose only where one of the rows is, or one that comes.
+  -- A node of the next rows is loose only if a node of the rows is, or one that comes.
   pub rows-after_loose : (X : Type 0) (height next : ℕ) (rows : ℕ → Row J V M) (aheads : ℕ → Ahead J V M) → ((k : ℕ) → height < k → (rows k).parts ≡ []) → ((k : ℕ) → ahead_loose (aheads k) ≡ true → X)
       → rows_loose (suc next) (λ k. row_after (rows k) (aheads k)) ≡ true → (rows_loose (suc height) rows ≡ true) ⊎ X
   rows-after_loose X height next rows aheads above met h =
@@ -143,7 +143,7 @@ module _ {J V M : Type 0} (digest_of : PairOf V → List ℕ) where
   levels-push [] l = append-nil (parts_pins digest_of l.nodes.items)
   levels-push (x ∷ levels) l = ap (λ (ps : List PinName). parts_pins digest_of x.nodes.items ++ ps) (levels-push levels l) ∙ sym (append_assoc (parts_pins digest_of x.nodes.items) (levels_pins digest_of levels) (parts_pins digest_of l.nodes.items))
 
-  -- The pins of the levels before one and behind it.
+  -- The pins of the levels before one and after it.
   pub levels-split : (levels : List (Level J V M)) (k : ℕ) (l : Level J V M) → slice_get levels k ≡ Some l → (hs : List PinName) × (bs : List PinName) × (levels_pins digest_of levels ≡ hs ++ (parts_pins digest_of l.nodes.items ++ bs)) × ((m : Level J V M) → levels_pins digest_of (set levels k m) ≡ hs ++ (parts_pins digest_of m.nodes.items ++ bs))
   levels-split [] k l e = absurd (let no : None ≡ Some l = e in cc)
   levels-split (x ∷ levels) zero l e =
@@ -169,7 +169,7 @@ module _ {J V M : Type 0} (digest_of : PairOf V → List ℕ) where
   levels-none (l ∷ levels) none =
       ap (λ (ps : List (Part J V M)). parts_pins digest_of ps ++ levels_pins digest_of levels) (none 0) ∙ levels-none levels (λ k. none (suc k))
 
-  -- The levels over the leaves have fewer pins than there are leaves.
+  -- The levels over the leaves have fewer pins than leaves.
   pub levels-few : (joined : ℕ → V → V → V) (levels : List (Level J V M)) (height : ℕ) → ((k : ℕ) → k < height → IsOver joined (rows_of levels k) (rows_of levels (suc k))) → ((k : ℕ) → height < k → (rows_of levels k).parts ≡ [])
       → length (levels_pins digest_of levels) ≤ length (parts_pins digest_of (rows_of levels 0).parts) + (length (rows_of levels 0).parts - 1)
   levels-few joined [] height over above = omega arith

@@ -1,4 +1,4 @@
--- What stands at a place of a list that is made of others.
+-- What is at a place of a list that is made of others.
 use Rattle.std.proofs.Common.{◌≡◌, ◌⊎◌, inl, inr, ℕ, suc, zero, ◌+◌, ◌-◌, ◌<◌, ◌≤◌, arith, sym, ap, ◌∙◌, refl, subst, List, [], ◌∷◌, ◌++◌, length, take, drop, set, get_or, map, Some}
 use Rattle.std.specs.List.{slice_get, All}
 use Rattle.std.specs.List.Sorted.{IsStrictlyIncreasing}
@@ -53,7 +53,7 @@ module _ {X : Type 0} where
   length-put (p ∷ ps) [] xs = refl
   length-put (p ∷ ps) (y ∷ news) xs = length-put ps news (set xs p y) ∙ length-set xs p y
 
-  -- A place where nothing is put.
+  -- A place at which nothing is put.
   pub get-put_other : (ps : List ℕ) (news xs : List X) (i : ℕ) → ((k : ℕ) → k < length ps → get_or ps k 0 ≡ i → ⊥) → slice_get (put_at ps news xs) i ≡ slice_get xs i
   get-put_other [] news xs i off = refl
   get-put_other (p ∷ ps) [] xs i off = refl
@@ -71,7 +71,7 @@ rising-next p q ps r =
     let e : zero + 1 ≡ suc zero = omega arith in
     subst (λ (j : ℕ). p < get_or (p ∷ (q ∷ ps)) j 0) e (r 0 (omega arith))
 
--- The first one lies below all others.
+-- The first one is below all others.
 pub rising-above : (p : ℕ) (ps : List ℕ) → IsStrictlyIncreasing (p ∷ ps) → (k : ℕ) → k < length ps → p < get_or ps k 0
 rising-above p [] r k lt = absurd (omega (arith, lt))
 rising-above p (q ∷ ps) r zero lt = rising-next p q ps r
@@ -88,7 +88,7 @@ rising-le (p ∷ ps) r (suc i) zero le lt = absurd (omega (arith, le))
 rising-le (p ∷ ps) r (suc i) (suc j) le lt = rising-le ps (rising-tail p ps r) i j (omega (arith, le)) (omega (arith, lt))
 
 module _ {X : Type 0} where
-  -- A place where one is put.
+  -- A place at which an item is put.
   pub get-put_same : (ps : List ℕ) (news xs : List X) (k : ℕ) → IsStrictlyIncreasing ps → k < length ps → k < length news → get_or ps k 0 < length xs → slice_get (put_at ps news xs) (get_or ps k 0) ≡ slice_get news k
   get-put_same [] news xs k r lt in_news within = absurd (omega (arith, lt))
   get-put_same (p ∷ ps) [] xs k r lt in_news within = absurd (omega (arith, in_news))
@@ -98,7 +98,7 @@ module _ {X : Type 0} where
   get-put_same (p ∷ ps) (y ∷ news) xs (suc k) r lt in_news within =
       get-put_same ps news (set xs p y) k (rising-tail p ps r) (omega (arith, lt)) (omega (arith, in_news)) (let e = length-set xs p y in omega (arith, e, within))
 
--- Whether a number stands in a list, and where.
+-- Whether a number is in a list, and at which place.
 pub found_or_not : (ps : List ℕ) (i : ℕ) → ((k : ℕ) × (k < length ps) × (get_or ps k 0 ≡ i)) ⊎ ((k : ℕ) → k < length ps → get_or ps k 0 ≡ i → ⊥)
 found_or_not [] i = inr (λ k lt e. omega (arith, lt))
 found_or_not (p ∷ ps) i = elim (cases_eq p i) [
@@ -132,7 +132,7 @@ rising-less low ps within r k lt =
     let above = within k 0 (omega (arith, lt, e)) in
     omega (arith, here, next, rise, above)
 
--- So many are left where some go, and none where more would go than there are.
+-- How many are left if some leave; none if more would leave than there are.
 pub drop-clamped : {X : Type 0} (xs : List X) (n : ℕ) → drop (length xs - (length xs - n)) xs ≡ drop n xs
 drop-clamped xs n = elim (cases_lt (length xs) n) [
   | inl lt ↦ ap (λ (k : ℕ). drop k xs) (omega (arith, lt)) ∙ drop_all (length xs) xs (omega arith) ∙ sym (drop_all n xs (omega (arith, lt)))

@@ -1,4 +1,4 @@
--- What a node over two halves of a row asks for, and what it becomes.
+-- The node over two halves of a row, and what it becomes.
 use Rattle.std.proofs.Common.{◌≡◌, ◌⊎◌, inl, inr, ℕ, ◌+◌, ◌*◌, arith, sym, ◌∙◌, refl, subst, Option, Some, None}
 use Rattle.std.specs.Prelude.{IfSome, IsSome}
 use Rattle.std.specs.Option.{option_map}

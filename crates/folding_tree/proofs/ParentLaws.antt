@@ -10,7 +10,7 @@ use Rattle.folding_tree.proofs.BoundLaws.{beyond-push, beyond-parent, beyond-its
 use Rattle.folding_tree.proofs.ListLaws.{rising-le}
 use Rattle.folding_tree.proofs.FlowLaws.{rising-push}
 
--- The places over the first so many changed ones.
+-- The places over the first changed ones.
 pub record SoFar {J V M : Type 0} (row : Row J V M) (ahead : Ahead J V M) (mid i : ℕ) (above : List ℕ) : Type 0 where
   pub within : All (λ (place : ℕ). (ahead.low / 2 ≤ place) × (place < mid)) above
   pub rising : IsStrictlyIncreasing above
@@ -56,7 +56,7 @@ module _ {J V M : Type 0} (row : Row J V M) (ahead : Ahead J V M) (mid : ℕ) (f
     counted : beyond ahead.low more ≡ beyond ahead.low (take i ahead.places) + beyond ahead.low (here ∷ [])
     counted = ap (beyond ahead.low) (take_more ahead.places i 0 lt) ∙ beyond-push ahead.low (take i ahead.places) here
 
-    -- The place over it is there, or lies behind.
+    -- The place over it is there already, or comes later.
     same-more : (here / 2 < mid → Contains above (here / 2)) → SoFar row ahead mid (i + 1) above
     same-more there = record {
       within = so_far.within;

@@ -80,7 +80,7 @@ module _ {J V M : Type 0} where
     ]
   ]
 
--- One part of a list is another's place: its own pins go, and the other's come.
+-- One part of a list replaces another: its pins come, and the other's leave.
 module _ {J V M : Type 0} (digest_of : PairOf V → List ℕ) where
   pub pins-set : (xs : List (Part J V M)) (i : ℕ) (old new : Part J V M) → i < length xs → old ≡ get_or xs i old → (hs : List PinName) × (bs : List PinName) × (parts_pins digest_of xs ≡ hs ++ (part_pins digest_of old ++ bs)) × (parts_pins digest_of (set xs i new) ≡ hs ++ (part_pins digest_of new ++ bs))
   pins-set [] i old new lt is = absurd (omega (arith, lt))

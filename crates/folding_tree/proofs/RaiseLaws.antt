@@ -19,11 +19,11 @@ use Rattle.folding_tree.proofs.RowLaws.{after-outside}
 use Rattle.folding_tree.proofs.AlignLaws.{length-places_from, get-places_from}
 use Rattle.folding_tree.proofs.BoundLaws.{merges-few, merges-behind, rising-few, level-few}
 
--- Pins that are got beside others.
+-- New pins in addition to others.
 pub trades-add : (u v w : CallerView) (os ps qs : List PinName) → Trades u os v ps → Trades v [] w qs → Trades u os w (ps ++ qs)
 trades-add u v w os ps qs a b = trades-then u v w os ps (ps ++ qs) a (subst (λ (xs : List PinName). Trades v xs w (ps ++ qs)) (append-nil ps) (trades-beside v w ps [] qs b))
 
--- A step that got none.
+-- A step that adds no pin.
 pub trades-idle : (u v w : CallerView) (os ps : List PinName) → Trades u os v ps → Trades v [] w [] → Trades u os w ps
 trades-idle u v w os ps a b = subst (λ (xs : List PinName). Trades u os w xs) (append-nil ps) (trades-add u v w os ps [] a b)
 
@@ -34,7 +34,7 @@ met-either changed fresh u v w a b f g h = elim (or_cases (parts_loose changed) 
   | inr d ↦ any-met-before u v w a b (g d)
 ]
 
--- Where the nodes that stay end, and the level.
+-- The ends of the nodes that stay, and of the level.
 pub end-within : (low mid high above_mid above_high : ℕ) → low ≤ mid → mid ≤ high → above_high ≡ high / 2 + high % 2 → (mid < high → above_mid ≡ mid / 2) → (high ≤ mid → above_mid ≡ above_high)
     → (low / 2 ≤ above_mid) × (above_mid ≤ above_high) × (above_high ≡ (high + 1) / 2) × ((mid < high) × (above_mid ≡ mid / 2) ⊎ (mid ≡ high) × (above_mid ≡ above_high))
 end-within low mid high above_mid above_high a b g f h = elim (cases_lt mid high) [

@@ -1,4 +1,4 @@
--- The levels over leaves: each node is the merge of the leaves below it, and few of them are merges.
+-- The levels over leaves: each node is the merge of the leaves below it, and few nodes are merges.
 use Rattle.std.proofs.Common.{◌≡◌, ◌⊎◌, inl, inr, ℕ, suc, zero, ◌+◌, ◌-◌, ◌*◌, ◌%◌, ◌^◌, ◌<◌, ◌≤◌, arith, sym, ap, ◌∙◌, refl, subst, List, [], ◌∷◌, ◌++◌, length, length-append, append_assoc, Option, Some, None}
 use Rattle.std.specs.List.{slice_get, All}
 use Rattle.std.specs.Option.{option_map}
@@ -46,7 +46,7 @@ parity : (n : ℕ) → (n % 2 ≡ 0) ⊎ (n % 2 ≡ 1)
 parity n = elim (cases_eq (n % 2) 0) [ inl e ↦ inl e | inr off ↦ inr (omega (arith, off)) ]
 
 module _ {V : Type 0} (joined : ℕ → V → V → V) where
-  -- Of a list of sheets each is the merge of some leaves, from left to right.
+  -- Each sheet of a list is the merge of some leaves, from left to right.
   abbrev pub Groups : ℕ → List (SheetOf V) → List (SheetOf V) → Type 0
   Groups setting [] leaves = leaves ≡ []
   Groups setting (x ∷ xs) leaves = (us : List (SheetOf V)) × (vs : List (SheetOf V)) × (leaves ≡ us ++ vs) × IsMergeOver joined setting (tables_of us) (Some x) × Groups setting xs vs
@@ -96,7 +96,7 @@ module _ {J V M : Type 0} (joined : ℕ → V → V → V) where
           groups-paired below parts ws (paired-rest a b below p parts h) (all-right (IsLeaf good setting) (us ++ vs) ws all_parts) rest.4,
         )
 
-  -- A merge has one pin, and spares a node.
+  -- A merge has one pin, and saves a node.
   one-pin : (digest_of : PairOf V → List ℕ) (p : Part J V M) → length (part_pins digest_of p) ≤ 1
   one-pin digest_of (Shared s) = omega arith
   one-pin digest_of (Merged (Pinned p)) = omega arith

@@ -1,4 +1,4 @@
--- What stands at a place of a row, and of the row after it.
+-- What is at a place of a row, and of the row after it.
 use Rattle.std.proofs.Common.{◌≡◌, ◌⊎◌, inl, inr, ℕ, ◌+◌, ◌-◌, ◌<◌, ◌≤◌, arith, sym, ap, ◌∙◌, List, length, length-append, length-take, length-drop, take, drop, get_or, map, Some, None, cond}
 use Rattle.std.specs.List.{slice_get}
 use Rattle.std.proofs.lemmas.Bool.{lt-ltb, le-ltb, cases_lt}
@@ -19,7 +19,7 @@ module _ {J V M : Type 0} (row : Row J V M) where
   pub at-past : (place : ℕ) → row.low + length row.parts ≤ place → part_at row place ≡ None
   at-past place le = at-behind place (omega (arith, le)) ∙ slice_get_past row.parts (place - row.low) (omega (arith, le))
 
-  -- A node stands between both ends.
+  -- A node is between both ends.
   pub at-within : (place : ℕ) (part : Part J V M) → part_at row place ≡ Some part → (row.low ≤ place) × (place < row.low + length row.parts)
   at-within place part is = elim (cases_lt place row.low) [
     | inl lt ↦ absurd (let no : None ≡ Some part = sym (at-before place lt) ∙ is in cc)
@@ -50,7 +50,7 @@ module _ {J V M : Type 0} (row : Row J V M) (ahead : Ahead J V M) (fit : IsFit r
       let d = fit.fresh in
       omega (arith, a, b, c, d)
 
-  -- Nothing stands before it and behind it.
+  -- There is nothing before it and after it.
   pub after-outside : (place : ℕ) → (place < ahead.low) ⊎ (ahead.high ≤ place) → part_at after place ≡ None
   after-outside place (inl lt) = at-before after place lt
   after-outside place (inr le) = at-past after place (let e = after-length in omega (arith, e, le))
@@ -58,7 +58,7 @@ module _ {J V M : Type 0} (row : Row J V M) (ahead : Ahead J V M) (fit : IsFit r
   front_at : (place : ℕ) → ahead.low ≤ place → place < ahead.mid → part_at after place ≡ slice_get (put_at relative ahead.changed stays) (place - ahead.low)
   front_at place le lt = at-behind after place le ∙ get-append_left (put_at relative ahead.changed stays) ahead.fresh (place - ahead.low) (let e = front_length in omega (arith, e, le, lt))
 
-  -- One that stays.
+  -- A node that stays.
   pub after-kept : (place : ℕ) → ahead.low ≤ place → place < ahead.mid → ((k : ℕ) → k < length ahead.places → get_or ahead.places k 0 ≡ place → ⊥) → part_at after place ≡ slice_get row.parts (ahead.from - row.low + (place - ahead.low))
   after-kept place le lt off =
       front_at place le lt
@@ -71,7 +71,7 @@ module _ {J V M : Type 0} (row : Row J V M) (ahead : Ahead J V M) (fit : IsFit r
       ∙ get-take (ahead.mid - ahead.low) (drop (ahead.from - row.low) row.parts) (place - ahead.low) (omega (arith, le, lt))
       ∙ get-drop (ahead.from - row.low) row.parts (place - ahead.low)
 
-  -- A changed one.
+  -- A changed node.
   pub after-changed : (k : ℕ) → k < length ahead.places → part_at after (get_or ahead.places k 0) ≡ slice_get ahead.changed k
   after-changed k lt =
       let n = length-less ahead.low ahead.places in
@@ -87,7 +87,7 @@ module _ {J V M : Type 0} (row : Row J V M) (ahead : Ahead J V M) (fit : IsFit r
       (rising-less ahead.low ahead.places (All-weaker (λ (p : ℕ). (ahead.low ≤ p) × (p < ahead.mid)) (λ (p : ℕ). ahead.low ≤ p) (λ p h. h.0) ahead.places fit.within) fit.rising)
       (omega (arith, lt, n)) (omega (arith, lt, changed)) (omega (arith, here, le, below, s))
 
-  -- A fresh one.
+  -- A fresh node.
   pub after-fresh : (place : ℕ) → ahead.mid ≤ place → part_at after place ≡ slice_get ahead.fresh (place - ahead.mid)
   after-fresh place le =
       let kept = fit.kept in

@@ -1,4 +1,4 @@
--- How a tree is seen before and after its calls.
+-- The model of a tree before and after its calls.
 use Rattle.std.proofs.Common.{◌≡◌, ◌⊎◌, inl, inr, ℕ, suc, zero, ◌+◌, ◌-◌, ◌*◌, ◌^◌, ◌<◌, ◌≤◌, arith, sym, ap, ◌∙◌, refl, subst, List, [], ◌∷◌, ◌++◌, length, drop, map, append-nil, Option, Some, None, true, false}
 use Rattle.std.specs.List.{slice_get, All}
 use Rattle.std.specs.Option.{option_map, IsSome}
@@ -55,12 +55,12 @@ tables-shifted {V} gone changed news olds =
     ∙ ap (λ (xs : List (List (List ℕ × V))). put_at changed (tables_of news) xs ++ map entries (drop (length changed) news)) (sym (drop-map entries gone olds))
     ∙ ap (λ (xs : List (List (List ℕ × V))). put_at changed (tables_of news) (drop gone (tables_of olds)) ++ xs) (sym (drop-map entries (length changed) news))
 
--- Rows that are the same by their number are the same.
+-- Rows that are equal at each number are equal.
 same-rows : {J V M : Type 0} (f h : ℕ → Row J V M) → ((k : ℕ) → f k ≡ h k) → f ≡ h
 same-rows f h same = λ i k. same k i
 
 module _ {J V M : Type 0} (good : ℕ → V → Type 0) (joined : ℕ → V → V → V) (digest_of : PairOf V → List ℕ) (setting places : ℕ) where
-  -- Where no draft stands there are fewer pins than leaves.
+  -- Without a draft there are fewer pins than leaves.
   pub folding-few : (at : Standing) (draft : Option Standing) (levels : List (Level J V M)) (drafts : List (Draft J V M)) → IsFolding good joined setting at draft levels drafts → drafts ≡ [] → length (levels_pins digest_of levels ++ drafts_pins digest_of drafts) ≤ length (tables_of (sheets_of (rows_of levels 0).parts)) - 1
   folding-few at draft levels drafts folding none =
       let few = levels-few digest_of joined levels at.height folding.now.tower.over folding.now.tower.above in
@@ -106,7 +106,7 @@ module _ {J V M : Type 0} (good : ℕ → V → Type 0) (joined : ℕ → V → 
     pub seen-leaves : leaves_of at (rows_of levels) ≡ seen.tree.leaves
     seen-leaves = ap (λ (t : Seen V). t.tree.leaves) is
 
-    -- No draft is seen where none stands.
+    -- Without a draft the model has none.
     pub seen-none : seen.tree.draft ≡ None → draft ≡ None
     seen-none none = by_draft draft (ap (λ (t : Seen V). t.tree.draft) is ∙ none)
       where
@@ -119,7 +119,7 @@ module _ {J V M : Type 0} (good : ℕ → V → Type 0) (joined : ℕ → V → 
         let no : false ≡ true = subst (λ (o : Option (Leaves V)). IsSome o) (sym (ap (λ (t : Seen V). t.tree.draft) is) ∙ ap (λ (d : Option Standing). draft_of d levels drafts) none) some in
         true≢false (sym no)
 
-    -- Where none stands, dropping it changes nothing, and there are fewer pins than leaves.
+    -- Without a draft, dropping it changes nothing, and there are fewer pins than leaves.
     pub seen-plain : draft ≡ None → seen.tree ≡ reverted seen.tree
     seen-plain none = subst (λ (t : TreeView V). t ≡ reverted t) (ap (λ (d : Option Standing). (seen_of digest_of setting places at d levels drafts).tree) (sym none) ∙ ap (λ (t : Seen V). t.tree) is) refl
 
@@ -189,7 +189,7 @@ module _ {J V M : Type 0} (good : ℕ → V → Type 0) (joined : ℕ → V → 
           subst (λ (ps : List PinName). Trades u ps w (levels_pins digest_of levels ++ drafts_pins digest_of none)) (sym seen-pins)
           (subst (λ (ds : List (Draft J V M)). Trades u (levels_pins digest_of levels ++ drafts_pins digest_of drafts) w (levels_pins digest_of levels ++ drafts_pins digest_of ds)) (sym gone) (trades-beside u w (levels_pins digest_of levels) (drafts_pins digest_of drafts) [] t))
 
-    -- An advance, whatever it answers.
+    -- An advance, whatever it returns.
     module _ (no_draft : draft ≡ None) (new : List (Level J V M)) (made : List (Draft J V M)) (more : length levels ≤ length new) (rows : (k : ℕ) → rows_of new k ≡ rows_of levels k) (pins : levels_pins digest_of new ≡ levels_pins digest_of levels) where
       pub advanced-trade : (u w : CallerView) → Trades u [] w (drafts_pins digest_of made) → Trades u seen.pins w (levels_pins digest_of new ++ drafts_pins digest_of made)
       advanced-trade u w t =
@@ -234,7 +234,7 @@ module _ {J V M : Type 0} (good : ℕ → V → Type 0) (joined : ℕ → V → 
               };
             }
 
-      -- A node of the draft is loose only where one of the tree is, or where the caller met what makes one so.
+      -- A node of the draft is loose only if one of the tree is, or if the caller met what makes a node loose.
       pub advanced-loose : (X : Type 0) (next : Standing) → (rows_loose (suc next.height) (rows_after new made) ≡ true → (rows_loose (suc at.height) (rows_of levels) ≡ true) ⊎ X) → LooseOnlyIf X seen.tree (seen_of digest_of setting places at (Some next) new made).tree
       advanced-loose X next h draft e loose =
           let some : ◌≡◌ {A = Option (Leaves V)} (Some (leaves_of next (rows_after new made))) (Some draft) = e in

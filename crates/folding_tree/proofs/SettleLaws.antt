@@ -20,7 +20,7 @@ use Rattle.folding_tree.proofs.PartLaws.{pins-set}
 use Rattle.folding_tree.proofs.LevelLaws.{levels-split}
 
 module _ {J V M : Type 0} where
-  -- Room that is left where one level is written that has no draft.
+  -- Room that is left if one level is written that has no draft.
   pub room-kept : (levels : List (Level J V M)) (drafts fewer : List (Draft J V M)) (k : ℕ) (m : Level J V M) → ((i : ℕ) (d : Draft J V M) → slice_get fewer i ≡ Some d → (i ≡ k → ⊥) × (slice_get drafts i ≡ Some d)) → HaveRoom levels drafts → HaveRoom (set levels k m) fewer
   room-kept levels drafts fewer k m h room i level draft at in_drafts =
       let x = h i draft in_drafts in
@@ -47,7 +47,7 @@ module _ {J V M : Type 0} where
   ]
 
 module _ {J V M : Type 0} (digest_of : PairOf V → List ℕ) (v w : CallerView) (levels : List (Level J V M)) (k : ℕ) (l : Level J V M) (is : slice_get levels k ≡ Some l) where
-  -- One level's nodes and its draft become others.
+  -- One level's nodes and its draft are replaced by others.
   pub levels-trade : (m : Level J V M) (cs ds : List PinName) → Trades v (parts_pins digest_of l.nodes.items ++ ds) w (parts_pins digest_of m.nodes.items) → Trades v (levels_pins digest_of levels ++ (cs ++ ds)) w (levels_pins digest_of (set levels k m) ++ cs)
   levels-trade m cs ds t =
       let s = levels-split digest_of levels k l is in
@@ -60,7 +60,7 @@ module _ {J V M : Type 0} (digest_of : PairOf V → List ℕ) (v w : CallerView)
       let s = levels-split digest_of levels k l is in
       covered-between v s.0 (parts_pins digest_of l.nodes.items) s.1 cs ds (subst (λ (x : List PinName). Covered v (x ++ (cs ++ ds))) s.2 c)
 
-  -- One level's nodes go.
+  -- One level's nodes leave.
   pub levels-clear : (m : Level J V M) (cs : List PinName) → Trades v (parts_pins digest_of l.nodes.items) w (parts_pins digest_of m.nodes.items) → Trades v (levels_pins digest_of levels ++ cs) w (levels_pins digest_of (set levels k m) ++ cs)
   levels-clear m cs t =
       let s = levels-split digest_of levels k l is in
@@ -75,7 +75,7 @@ module _ {J V M : Type 0} (digest_of : PairOf V → List ℕ) (v w : CallerView)
       let all : Covered v (s.0 ++ (parts_pins digest_of l.nodes.items ++ s.1)) = subst (Covered v) s.2 (covered-left v (levels_pins digest_of levels) cs c) in
       covered-left v (parts_pins digest_of l.nodes.items) s.1 (covered-right v s.0 (parts_pins digest_of l.nodes.items ++ s.1) all)
 
--- Three steps of one level: its first nodes go, its last ones, and changed ones come, before the fresh ones.
+-- The steps of one level: its first nodes leave, then its last ones, then changed ones come, then the fresh ones.
 pub level-trade : (t u v w : CallerView) (ps qs rs ss cs fs : List PinName) → Trades t ps u qs → Trades u qs v rs → Trades v (rs ++ cs) w ss → Trades t (ps ++ (cs ++ fs)) w (ss ++ fs)
 level-trade t u v w ps qs rs ss cs fs a b c =
     let one = trades-before t u (cs ++ fs) ps qs a in
@@ -90,7 +90,7 @@ trades-from : (v w : CallerView) (ps qs rs : List PinName) → ((s id : ℕ) →
 trades-from v w ps qs rs same given t = record { balanced = balanced-from v w ps qs rs same t.balanced; given = λ g. t.given (given g) }
 
 module _ {J V M : Type 0} (digest_of : PairOf V → List ℕ) where
-  -- One node is let go for the next of some others.
+  -- One node is replaced by the next of some others.
   pub exchange-trade : (v w : CallerView) (xs : List (Part J V M)) (i : ℕ) (old new : Part J V M) → i < length xs → old ≡ get_or xs i old → (news rest : List (Part J V M)) → news ≡ new ∷ rest → ((ps : List PinName) → Balanced v (part_pins digest_of old ++ ps) w ps)
       → Trades v (parts_pins digest_of xs ++ parts_pins digest_of news) w (parts_pins digest_of (set xs i new) ++ parts_pins digest_of rest)
   exchange-trade v w xs i old new lt is news rest split gone =

@@ -31,7 +31,7 @@ one-doubled h low high e = ap (λ b. shape (cond b (h + 1) h) low (high + 1)) (e
 one-more : (h low high : ℕ) → (high ≡ 2 ^ h → ⊥) → with_one (shape h low high) ≡ shape h low (high + 1)
 one-more h low high off = ap (λ b. shape (cond b (h + 1) h) low (high + 1)) (ne_eqb high (2 ^ h) off)
 
--- So many fresh leaves make the least height whose places suffice.
+-- Fresh leaves make the least height whose places suffice.
 pub fresh-reach : (n h low high g : ℕ) → high ≤ 2 ^ h → h ≤ g → high + n ≤ 2 ^ g → ((i : ℕ) → h ≤ i → i < g → 2 ^ i < high + n) → with_fresh n (shape h low high) ≡ shape g low (high + n)
 fresh-reach zero h low high g fits le reach least = elim (cases_eq h g) [
   | inl e ↦ ap (λ (k : ℕ). shape k low high) e ∙ ap (shape g low) (omega arith)

@@ -62,7 +62,7 @@ module _ (span : Span) (wide : span.width ≡ 2 ^ span.height) (some : span.low 
       ∙ folded-both (span.height - 1) span.low span.high (omega (arith, lt, e)) (omega (arith, less, e))
       ∙ ap (λ (k : ℕ). shape_at k span.low span.high) (sym upper)
 
--- What moved by multiples of a half's places, after it moved by multiples of all places.
+-- A move by multiples of a half's places, after a move by multiples of all places.
 pub moved-twice : (j t h up low mid : ℕ) → up ≡ h + 1 → mid ≡ low + t * 2 ^ h → (high : ℕ) → high ≡ mid + j * 2 ^ up → high ≡ low + (t + 2 * j) * 2 ^ h
 moved-twice j t h up low mid e a high b =
     let s : up ≡ suc h = omega (arith, e) in
@@ -79,7 +79,7 @@ grown-shape span height width high fresh wide fits now le is reach least =
     sym (fresh-reach fresh span.height span.low span.high height (omega (arith, wide, fits)) le (omega (arith, is, reach, now)) (λ i a b. let x = least i a b in omega (arith, x, is))
     ∙ ap (shape_at height span.low) (sym is))
 
--- The places of leaves of which some go: there are others, or none.
+-- The places of leaves of which some leave: there are others, or none.
 pub kept-some : (gone : ℕ) (s : Shape) → s.low + gone < s.high → without gone s ≡ folded s.height (s.low + gone) s.high
 kept-some gone s lt = ap (λ b. cond b (folded s.height (s.low + gone) s.high) no_shape) (lt-ltb (s.low + gone) s.high lt)
 

@@ -1,4 +1,4 @@
--- A folding tree: levels of nodes over the leaves, and what becomes of them by a draft.
+-- A folding tree: levels of nodes over the leaves, and what a draft makes of them.
 use Rattle.std.specs.Prelude.{◌≡◌, ℕ, suc, ◌+◌, ◌-◌, ◌*◌, ◌^◌, ◌<◌, ◌≤◌, List, [], ◌∷◌, ◌++◌, map, drop, length, slice_get, slice_index_or, All, Option, Some, None}
 use Rattle.std.specs.VecDeque.{deque_capacity}
 use Rattle.sheets.specs.Sheets.{SheetOf}
@@ -18,7 +18,7 @@ use Rattle.folding_tree.specs.Levels.{Row, Ahead, no_row, no_ahead, row_after, s
 abbrev pub span_shape : Span → Shape
 span_shape span = record { height = span.height; low = span.low; high = span.high }
 
--- The half of the places that is left: all live ones stand there, counted from its start.
+-- The half of the places that is left: it has all live ones, and counts from its start.
 pub record IsHalf (span half : Span) : Type 0 where
   pub lower : span.height ≡ half.height + 1
   pub wide : half.width ≡ 2 ^ half.height
@@ -36,11 +36,11 @@ module _ {J V M : Type 0} where
   abbrev pub ahead_of : Draft J V M → Ahead J V M
   ahead_of draft = record { from = draft.from; low = draft.low; mid = draft.mid; high = draft.high; places = draft.places.items; changed = draft.changed.items; fresh = draft.fresh.items }
 
-  -- The rows of the levels, from the leaves on; behind the last one there are no nodes.
+  -- The rows of the levels, from the leaves on; after the last one there are no nodes.
   abbrev pub rows_of : List (Level J V M) → ℕ → Row J V M
   rows_of levels k = slice_index_or (map row_of levels) k no_row
 
-  -- What the drafts make of the rows, from the leaves on; behind the last one nothing stays.
+  -- What the drafts make of the rows, from the leaves on; after the last one nothing stays.
   abbrev pub aheads_of : List (Draft J V M) → ℕ → Ahead J V M
   aheads_of drafts k = slice_index_or (map ahead_of drafts) k no_ahead
 
@@ -48,7 +48,7 @@ module _ {J V M : Type 0} where
   abbrev pub rows_after : List (Level J V M) → List (Draft J V M) → ℕ → Row J V M
   rows_after levels drafts k = row_after (rows_of levels k) (aheads_of drafts k)
 
-  -- The nodes of the row from the place `from` on are those of the span, and stand a multiple of its places before it.
+  -- The nodes of the row from the place `from` on are those of the span, moved by a multiple of its places.
   abbrev pub IsMoved : Row J V M → ℕ → Span → Type 0
   IsMoved row from span = (row.low ≤ from) × (from + (span.high - span.low) ≡ row.low + length row.parts) × ((j : ℕ) × (from ≡ span.low + j * 2 ^ span.height))
 
@@ -89,8 +89,8 @@ module _ {J V M : Type 0} where
   abbrev pub shape_of : ℕ → Row J V M → Shape
   shape_of height leaves = record { height = height; low = leaves.low; high = leaves.low + length leaves.parts }
 
-  -- The draft is the tree with what a shift brings: at the changed places the first of the sheets, and behind the others
-  -- the rest.
+  -- The draft is the tree with what a shift brings: the first of the sheets at the changed places, the rest after the
+  -- others.
   pub record IsAdvanced (good : ℕ → V → Type 0) (joined : ℕ → V → V → V) (setting : ℕ) (at : Standing) (first gone : ℕ) (changed : List ℕ) (came : ℕ) (news : List (SheetOf V)) (olds levels : List (Level J V M)) (drafts : List (Draft J V M)) (next : Standing) : Type 0 where
     pub first_is : next.first ≡ first
     pub draft : IsNext good joined setting next levels drafts
@@ -121,7 +121,7 @@ module _ {J V M : Type 0} where
     drafts_pins [] = []
     drafts_pins (draft ∷ drafts) = draft_pins draft ++ drafts_pins drafts
 
-    -- A tree as it is seen.
+    -- The model of a tree.
     abbrev pub seen_of : ℕ → ℕ → Standing → Option Standing → List (Level J V M) → List (Draft J V M) → Seen V
     seen_of setting places at draft levels drafts = record {
       tree = record { setting = setting; places = places; leaves = leaves_of at (rows_of levels); draft = draft_of draft levels drafts };

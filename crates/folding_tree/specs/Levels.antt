@@ -37,7 +37,7 @@ module _ {J V M : Type 0} where
   IsMerged joined a b (Shared s) = ⊥
   IsMerged joined a b (Merged h) = sheet_of h ≡ merge_of joined (pair_of a b)
 
-  -- What stands over two halves: their merge, a share of the one that is there, or nothing.
+  -- The node over two halves: their merge, a share of the only one, or nothing.
   abbrev pub IsMade : (ℕ → V → V → V) → Option (SheetOf V) → Option (SheetOf V) → Option (Part J V M) → Type 0
   IsMade joined None None made = made ≡ None
   IsMade joined None (Some b) made = made ≡ Some (Shared b)
@@ -65,12 +65,12 @@ module _ {J V M : Type 0} where
     parts_pins [] = []
     parts_pins (p ∷ ps) = part_pins p ++ parts_pins ps
 
--- How many of the places lie beyond this one.
+-- How many of the places are beyond this one.
 abbrev pub beyond : ℕ → List ℕ → ℕ
 beyond low [] = 0
 beyond low (place ∷ places) = cond (nat_lt low place) 1 0 + beyond low places
 
--- So many places, from this one on.
+-- A number of places, from this one on.
 abbrev pub places_from : ℕ → ℕ → List ℕ
 places_from low zero = []
 places_from low (suc n) = places_from low n ++ (low + n) ∷ []
@@ -83,14 +83,14 @@ EndsElsewhere places place = 0 < length places → slice_index places (length pl
 abbrev pub IsAdded : ℕ → ℕ → List ℕ → List ℕ → Type 0
 IsAdded mid place old new = (mid ≤ place) × (new ≡ old) ⊎ ((0 < length old) × (slice_index old (length old - 1) ≡ place) × (new ≡ old) ⊎ (place < mid) × EndsElsewhere old place × (new ≡ old ++ place ∷ []))
 
--- The nodes of a level, of which the first one stands at the place `low` of this level.
+-- The nodes of a level, of which the first one is at the place `low` of this level.
 pub record Row (J V M : Type 0) : Type 0 where
   pub low : ℕ
   pub parts : List (Part J V M)
 
--- What becomes of a row: its nodes from the place `from` on stay, there are `mid - low` of them, and they stand at the
--- places from `low` to `mid - 1` then, but for those at `places`, which become the `changed` ones. Behind them stand the
--- fresh ones, up to the place `high - 1`.
+-- What a row becomes: `mid - low` of its nodes stay, from the place `from` on, and are then at the places from `low` to
+-- `mid - 1`, except those at `places`, which become the `changed` ones. After them come the fresh ones, up to the place
+-- `high - 1`.
 pub record Ahead (J V M : Type 0) : Type 0 where
   pub from : ℕ
   pub low : ℕ
@@ -105,19 +105,19 @@ module _ {J V M : Type 0} where
   abbrev pub no_row : Row J V M
   no_row = record { low = 0; parts = [] }
 
-  -- Nothing becomes of a row: none of its nodes stays.
+  -- Nothing is left of a row: none of its nodes stays.
   abbrev pub no_ahead : Ahead J V M
   no_ahead = record { from = 0; low = 0; mid = 0; high = 0; places = []; changed = []; fresh = [] }
 
-  -- The node at a place of the level, where there is one.
+  -- The node at a place of the level, if there is one.
   abbrev pub part_at : Row J V M → ℕ → Option (Part J V M)
   part_at row place = cond (nat_lt place row.low) None (slice_get row.parts (place - row.low))
 
-  -- The sheet at a place of the level, where there is one.
+  -- The sheet at a place of the level, if there is one.
   abbrev pub sheet_at : Row J V M → ℕ → Option (SheetOf V)
   sheet_at row place = option_map part_sheet (part_at row place)
 
-  -- Each node of the upper row is what its two halves in the lower one ask for.
+  -- Each node of the upper row is the one over its two halves in the lower row.
   pub record IsOver (joined : ℕ → V → V → V) (below above : Row J V M) : Type 0 where
     pub low : above.low ≡ below.low / 2
     pub made : (place : ℕ) → IsMade joined (sheet_at below (2 * place)) (sheet_at below (2 * place + 1)) (part_at above place)
@@ -131,7 +131,7 @@ module _ {J V M : Type 0} where
   merges_over below [] = 0
   merges_over below (place ∷ places) = merges_by (sheet_at below (2 * place)) (sheet_at below (2 * place + 1)) + merges_over below places
 
-  -- Each sheet of the row is so.
+  -- Each sheet of the row has the property.
   abbrev pub EachSheet : (SheetOf V → Type 0) → Row J V M → Type 0
   EachSheet P row = (place : ℕ) (s : SheetOf V) → sheet_at row place ≡ Some s → P s
 
@@ -143,7 +143,7 @@ module _ {J V M : Type 0} where
   abbrev pub row_after : Row J V M → Ahead J V M → Row J V M
   row_after row ahead = record { low = ahead.low; parts = parts_after row ahead }
 
-  -- It can become of the row.
+  -- The row can become so.
   pub record IsFit (row : Row J V M) (ahead : Ahead J V M) : Type 0 where
     pub kept : ahead.low ≤ ahead.mid
     pub fresh : ahead.mid + length ahead.fresh ≡ ahead.high
@@ -156,12 +156,12 @@ module _ {J V M : Type 0} where
   abbrev pub HasHalf : Ahead J V M → ℕ → Type 0
   HasHalf ahead place = (ahead.low ≤ 2 * place + 1) × (2 * place < ahead.high) × (ahead.low < ahead.high)
 
-  -- The place of the first node, where its left half goes and it stays.
+  -- The place of the first node, if it stays and its left half leaves.
   abbrev pub IsFirst : Row J V M → Ahead J V M → ℕ → List ℕ → Type 0
   IsFirst row ahead mid places = ((row.low < ahead.from → ahead.low % 2 ≡ 1 → ahead.low / 2 < mid → ⊥) × (places ≡ [])) ⊎ ((row.low < ahead.from) × (ahead.low % 2 ≡ 1) × (ahead.low / 2 < mid) × (places ≡ ahead.low / 2 ∷ []))
 
-  -- The places of the nodes that are made anew among those that stay: over each changed place, and over the first one
-  -- where its left half goes. Beyond the first one there are no more than before.
+  -- The places of those nodes, among the ones that stay, that are made again: over each changed place, and the first
+  -- one if its left half leaves. Beyond the first one there are no more than below.
   pub record AreParents (row : Row J V M) (ahead : Ahead J V M) (mid : ℕ) (places : List ℕ) : Type 0 where
     pub within : All (λ place. (ahead.low / 2 ≤ place) × (place < mid)) places
     pub rising : IsStrictlyIncreasing places
@@ -169,8 +169,8 @@ module _ {J V M : Type 0} where
     pub over : All (λ place. place / 2 < mid → Contains places (place / 2)) ahead.places
     pub few : beyond (ahead.low / 2) places ≤ beyond ahead.low ahead.places
 
-  -- What becomes of a row over one of which this becomes: it keeps what stands over old nodes alone, and all others are
-  -- made anew.
+  -- What a row becomes over one that becomes this: it keeps the nodes that are over old nodes only, and all others are
+  -- made again.
   pub record IsRaised (joined : ℕ → V → V → V) (row : Row J V M) (ahead above : Ahead J V M) : Type 0 where
     pub from : above.from ≡ ahead.from / 2
     pub low : above.low ≡ ahead.low / 2
@@ -185,7 +185,7 @@ module _ {J V M : Type 0} where
   rows_loose zero rows = false
   rows_loose (suc k) rows = rows_loose k rows || parts_loose (rows k).parts
 
-  -- The rows over the leaves, up to the height: each row is over the one below, places have no merges, and no row stands
+  -- The rows over the leaves, up to the height: each row is over the one below, places have no merges, and no row is
   -- over the last one.
   pub record IsTower (joined : ℕ → V → V → V) (height : ℕ) (rows : ℕ → Row J V M) : Type 0 where
     pub over : (k : ℕ) → k < height → IsOver joined (rows k) (rows (suc k))
@@ -193,9 +193,9 @@ module _ {J V M : Type 0} where
     pub plain : All IsPlain (rows 0).parts
     pub fits : (rows 0).low + length (rows 0).parts ≤ 2 ^ height
 
-  -- How a row and what becomes of it stand to each other, on a level of a tree that is folded to a height: what stays is
-  -- there, and moves by a number of places that is even but on the last of these levels; where none comes behind it, it is
-  -- all that is there. A row without nodes begins at the place 0.
+  -- A row and what it becomes fit each other, on a level of a tree that is folded to a height: what stays is there, and
+  -- moves by a number of places that is even except on the last of these levels; if nothing comes after it, it is all
+  -- that is there. A row without nodes begins at the place 0.
   pub record IsAligned (height k : ℕ) (row : Row J V M) (ahead : Ahead J V M) : Type 0 where
     pub fit : IsFit row ahead
     pub stays : ahead.low < ahead.mid → (row.low ≤ ahead.from) × (ahead.from + (ahead.mid - ahead.low) ≤ row.low + length row.parts) × ((j : ℕ) × (ahead.from ≡ ahead.low + j * 2 ^ (height - k)))
@@ -203,8 +203,8 @@ module _ {J V M : Type 0} where
     pub small : ahead.mid ≤ 2 ^ (height - k)
     pub none : ahead.low ≡ ahead.high → ahead.low ≡ 0
 
-  -- Over the leaves and what becomes of them the tree can be built up to a height: it is folded to one that is no greater,
-  -- and where it grows, leaves come.
+  -- Over the leaves and what they become the tree can be built up to a height: it is folded to a height that is no
+  -- greater, and if it grows, leaves come.
   pub record IsBegun (joined : ℕ → V → V → V) (height : ℕ) (rows : ℕ → Row J V M) (leaves : Ahead J V M) : Type 0 where
     pub folded : ℕ
     pub lower : folded ≤ height

@@ -4,21 +4,21 @@ use Rattle.record_text.specs.declared.shift.Shift.{Shift}
 use Rattle.record_text.specs.declared.shift.Shift.TheVariants.{Slide, Splice}
 use Rattle.tree_laws.specs.Trees.{Shape, no_shape}
 
--- While one half of the places is wholly void, the other half becomes the tree. Where the left half went, places are
+-- While one half of the places is wholly void, the other half becomes the tree. If the left half went, places are
 -- counted from the right half's start.
 abbrev pub folded : ℕ → ℕ → ℕ → Shape
 folded zero low high = record { height = 0; low = low; high = high }
 folded (suc h) low high = cond (nat_le high (2 ^ h)) (folded h low high) (cond (nat_le (2 ^ h) low) (folded h (low - 2 ^ h) (high - 2 ^ h)) (record { height = suc h; low = low; high = high }))
 
--- The oldest leaves are voided, and the tree is folded; with no live place all is 0.
+-- The oldest leaves are voided, and the tree is folded; without a live place everything is 0.
 abbrev pub without : ℕ → Shape → Shape
 without gone s = cond (nat_lt (s.low + gone) s.high) (folded s.height (s.low + gone) s.high) no_shape
 
--- A fresh leaf is put at the place `high`; where all places before it are taken, the tree is doubled first.
+-- A fresh leaf is put at the place `high`; if all places before it are taken, the tree is doubled first.
 abbrev pub with_one : Shape → Shape
 with_one s = record { height = cond (s.high == 2 ^ s.height) (s.height + 1) s.height; low = s.low; high = s.high + 1 }
 
--- So many fresh leaves are put, one after the other.
+-- A number of fresh leaves are put, one after the other.
 abbrev pub with_fresh : ℕ → Shape → Shape
 with_fresh zero s = s
 with_fresh (suc n) s = with_fresh n (with_one s)

@@ -1,4 +1,4 @@
-//! The draft of the leaves themselves, which takes no merge.
+//! The draft of the leaves, which takes no merge.
 ghost use Rattle.std.specs.Prelude.{◌≡◌, ℕ, ◌+◌, ◌-◌, ◌<◌, ◌≤◌, [], All, IfOk, map, take, drop, length};
 ghost use Rattle.std.specs.List.Sorted.{IsStrictlyIncreasing};
 ghost use Rattle.tree_laws.specs.Pairs.{pair_digest};
@@ -14,8 +14,8 @@ use sheets::Sheet;
 use std::alloc::{AllocError, Global};
 use std::collections::VecDeque;
 
-/// The draft by which the leaves from the place `from` on stay, at the places of `kept`, the ones at the `changed` places
-/// among them become the first of these sheets, and the others come behind them, up to the end of `whole`.
+/// The draft in which the leaves from the place `from` on stay, at the places of `kept`; those at the `changed` places
+/// among them become the first of the sheets, and the other sheets come after them, up to the end of `whole`.
 pub(crate) fn begin<J: Job>(
     alloc: Global,
     from: usize,
@@ -49,7 +49,7 @@ pub(crate) fn begin<J: Job>(
     })
 }
 
-// The places of the level, where the first leaf stands at `low`.
+// The places of the level, if the first leaf is at `low`.
 fn places_at(
     alloc: Global,
     low: usize,

@@ -1,4 +1,4 @@
-//! Room for a draft, which is taken before it stands, so that settling takes no memory.
+//! Room for a draft, which is reserved before it is made, so that settling takes no memory.
 ghost use Rattle.std.specs.Prelude.{◌≡◌, ◌<◌, ◌≤◌, ◌-◌, ◌++◌, [], length, OnOk, ℕ};
 ghost use Rattle.std.specs.VecDeque.{deque_capacity};
 ghost use Rattle.tree_laws.specs.Pairs.{pair_digest};
@@ -10,7 +10,7 @@ use job_laws::Job;
 use std::alloc::{AllocError, Global};
 use std::collections::VecDeque;
 
-/// Adds levels without nodes until there are some over this height.
+/// Adds levels without nodes until there are levels above this height.
 pub(crate) fn deepen<J: Job>(
     alloc: Global,
     levels: &mut Vec<Level<J>>,
@@ -34,7 +34,7 @@ pub(crate) fn deepen<J: Job>(
     Ok(())
 }
 
-/// Takes room in each level for the nodes that its draft leaves there.
+/// Reserves room in each level for the nodes that its draft leaves there.
 pub(crate) fn make_room<J: Job>(
     levels: &mut Vec<Level<J>>,
     drafts: &[Draft<J>],
@@ -56,7 +56,7 @@ pub(crate) fn make_room<J: Job>(
     Ok(())
 }
 
-// Room for so many nodes in all.
+// Reserves room for a total number of nodes.
 fn make_room_in<J: Job>(level: &mut Level<J>, count: usize) -> Result<(), AllocError>
     ensures room { OnOk result (count ≤ deque_capacity level.new.nodes) }
     ensures row { row_of level.new ≡ row_of level.old }

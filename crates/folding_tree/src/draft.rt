@@ -1,4 +1,4 @@
-//! A draft stands beside the level that it changes, so that it can be dropped without a trace.
+//! A draft is kept apart from the level that it changes, so that it can be dropped without a trace.
 ghost use Rattle.std.specs.Prelude.{◌≡◌, option_copied};
 ghost use Rattle.folding_tree.specs.Levels.{IsFit, row_after, sheet_at};
 ghost use Rattle.folding_tree.specs.Folding.{row_of, ahead_of};
@@ -9,26 +9,26 @@ use job_laws::Job;
 use sheets::Sheet;
 use std::collections::VecDeque;
 
-/// What becomes of a level when its draft is settled. Places are those that its nodes have then.
+/// What a level becomes when its draft is settled. Places are those of its nodes afterwards.
 #[derive(Drop)]
 pub(crate) struct Draft<J: Job> {
-    /// The place, as it is before, of the first node that stays.
+    /// The place, before, of the first node that stays.
     pub(crate) from: usize,
-    /// The place that it has then.
+    /// The place of that node afterwards.
     pub(crate) low: usize,
-    /// The end of those that stay.
+    /// The end of the nodes that stay.
     pub(crate) mid: usize,
     /// The end of the level.
     pub(crate) high: usize,
-    /// The places, among those of nodes that stay, where another one comes.
+    /// The places, among those of nodes that stay, that get another node.
     pub(crate) places: Vec<usize>,
-    /// The ones that come there.
+    /// The nodes for these places.
     pub(crate) changed: VecDeque<Part<J>>,
-    /// The ones from `mid` on.
+    /// The nodes from `mid` on.
     pub(crate) fresh: VecDeque<Part<J>>,
 }
 
-/// The sheet at a place of the level when the draft is settled, where there is one.
+/// The sheet at a place of the level when the draft is settled, if there is one.
 pub(crate) fn next<'a, J: Job>(
     level: &'a Level<J>,
     draft: &'a Draft<J>,

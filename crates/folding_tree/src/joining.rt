@@ -1,4 +1,4 @@
-//! The merge of two halves, where both have a sheet.
+//! The part of a node over two halves: a merge only if both have a sheet.
 ghost use Rattle.std.specs.Prelude.{◌≡◌, ◌⊎◌, ℕ, ◌*◌, List, [], true, IfSome, IsSome, Some, IfOk, OnErr, option_copied};
 ghost use Rattle.job_laws.specs.Counted.{RoseBy};
 ghost use Rattle.pin_table.specs.Covers.{AreGiven, Got};
@@ -15,8 +15,8 @@ use std::alloc::{AllocError, Global};
 use std::sync::Wait;
 use tree_laws::{MergeRecipe, merge_through};
 
-/// What a node over two halves has: their merge, or a share of the one that is there. Only where both are there it costs a
-/// merge, at most one. It fails where memory runs out.
+/// The part of a node over two halves: their merge, or a share of the only sheet. It costs at most one merge, and none
+/// unless both are there. It fails only out of memory.
 pub(crate) fn join_halves<J: Job, W: Wait>(
     alloc: Global,
     rt: &W,

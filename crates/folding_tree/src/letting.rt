@@ -1,4 +1,4 @@
-//! How nodes are let go, at both ends of a level and of a draft as a whole. None of these calls takes memory.
+//! How nodes are given up, at both ends of a level, and of a draft as a whole. None of these calls takes memory.
 ghost use Rattle.std.specs.Prelude.{◌≡◌, ◌++◌, ◌-◌, [], take, drop, length, List};
 ghost use Rattle.std.specs.VecDeque.{deque_capacity};
 ghost use Rattle.pin_table.specs.Covers.{PinName, Covered, Balanced};
@@ -15,7 +15,7 @@ use std::collections::VecDeque;
 use std::sync::Wait;
 use tree_laws::{MergeRecipe, let_go};
 
-/// Lets the hold of a part go, where it has one.
+/// Gives up the hold of a part, if it has one.
 pub(crate) fn let_part_go<J: Job, W: Wait>(
     rt: &W,
     memo: &Memo<MergeRecipe<J>>,
@@ -32,7 +32,7 @@ pub(crate) fn let_part_go<J: Job, W: Wait>(
     }
 }
 
-/// Lets the first parts go until so many are left.
+/// Gives up the first parts until `left` are left.
 pub(crate) fn let_first_go<J: Job, W: Wait>(
     rt: &W,
     memo: &Memo<MergeRecipe<J>>,
@@ -54,7 +54,7 @@ pub(crate) fn let_first_go<J: Job, W: Wait>(
     }
 }
 
-/// Lets all parts go but the first ones, the last one first.
+/// Gives up all but the first parts, the last one first.
 pub(crate) fn let_last_go<J: Job, W: Wait>(
     rt: &W,
     memo: &Memo<MergeRecipe<J>>,
@@ -76,7 +76,7 @@ pub(crate) fn let_last_go<J: Job, W: Wait>(
     }
 }
 
-/// Lets all parts of a draft go.
+/// Gives up all parts of a draft.
 pub(crate) fn let_draft_go<J: Job, W: Wait>(
     rt: &W,
     memo: &Memo<MergeRecipe<J>>,
@@ -100,7 +100,7 @@ pub(crate) fn let_draft_go<J: Job, W: Wait>(
     let_last_go(rt, memo, caller, &mut fresh, 0);
 }
 
-/// Lets all drafts go, the last one first.
+/// Gives up all drafts, the last one first.
 pub(crate) fn let_drafts_go<J: Job, W: Wait>(
     rt: &W,
     memo: &Memo<MergeRecipe<J>>,

@@ -1,4 +1,5 @@
-//! Levels hold the nodes that are there, side by side, so that old ones leave at the front and fresh ones come at the back.
+//! Levels hold only the nodes that are there, in a row, so that old ones leave at the front and fresh ones come at the
+//! end.
 use crate::part::Part;
 use job_laws::Job;
 use std::collections::VecDeque;

@@ -1,9 +1,9 @@
-//! The tree of a window of buckets whose oldest ones go when they are dropped: a change costs the merges over its place.
+//! The tree of a window whose oldest buckets leave by command: a change costs the merges over its place.
 //!
-//! [`FoldingTree`] is a `Tree` of `tree_laws`. The leaves stand side by side among 2 to the height of places, and on each
-//! level over them only nodes that have leaves. The gone ones leave at the front and the fresh ones come at the back; where
-//! one half of the places is void the tree folds, and where all places behind are taken it doubles. Each node over a changed
-//! place is made once. Settling and reverting walk the nodes that the draft replaced alone.
+//! [`FoldingTree`] is a `Tree` of `tree_laws`. The leaves are a row among 2^height places, and each level over them has
+//! only nodes with leaves. Leaves leave at the front and fresh ones come at the end; if one half of the places is void,
+//! the tree folds, and if all places at the end are taken, it doubles. Each node over a changed place is made once.
+//! Settling and reverting walk only the nodes that the draft replaced.
 #![tactic(auto)]
 
 mod beginning;

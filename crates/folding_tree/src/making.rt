@@ -1,4 +1,4 @@
-//! The merges of an advance: nodes over a level whose draft is made.
+//! The merges of an advance: nodes over a level that has its draft.
 ghost use Rattle.std.specs.Prelude.{◌≡◌, ℕ, ◌+◌, ◌*◌, ◌<◌, ◌≤◌, List, [], true, All, Some, length, IfOk, OnOk, OnErr};
 ghost use Rattle.std.specs.VecDeque.{deque_capacity};
 ghost use Rattle.job_laws.specs.Counted.{RoseBy};
@@ -22,8 +22,7 @@ use std::collections::VecDeque;
 use std::sync::Wait;
 use tree_laws::MergeRecipe;
 
-/// The nodes at these places of the level over one that has its draft, each made once. Where it fails, no pin of theirs is
-/// left.
+/// Makes the nodes at these places of the level over one that has its draft, each once. If it fails, it leaves no pin.
 pub(crate) fn make_all<J: Job, W: Wait>(
     alloc: Global,
     rt: &W,
@@ -61,7 +60,7 @@ pub(crate) fn make_all<J: Job, W: Wait>(
     }
 }
 
-// The same, into a list with room for them. Where it fails, those that it made before stand there.
+// The same, into a list with room for them. If it fails, those made before are in the list.
 fn make_into<J: Job, W: Wait>(
     alloc: Global,
     rt: &W,
@@ -98,7 +97,7 @@ fn make_into<J: Job, W: Wait>(
     Ok(())
 }
 
-// One node.
+// Makes one node.
 fn make<J: Job, W: Wait>(
     alloc: Global,
     rt: &W,

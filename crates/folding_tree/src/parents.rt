@@ -1,4 +1,4 @@
-//! Which nodes of a level are made anew: those over places that changed below.
+//! The nodes of a level that are made again: those over changed places below.
 ghost use Rattle.std.specs.Prelude.{◌≡◌, ◌-◌, ◌≤◌, IfOk, OnOk};
 ghost use Rattle.folding_tree.specs.Levels.{IsFit, IsFirst, IsAdded, AreParents, places_from};
 ghost use Rattle.folding_tree.specs.Folding.{row_of, ahead_of};
@@ -8,7 +8,7 @@ use crate::level::Level;
 use job_laws::Job;
 use std::alloc::{AllocError, Global};
 
-/// The places before `mid` of the nodes over changed ones, each once.
+/// The places before `mid` of the nodes over changed places, each once.
 pub(crate) fn parents_of<J: Job>(
     alloc: Global,
     below: &Level<J>,
@@ -31,7 +31,7 @@ pub(crate) fn parents_of<J: Job>(
     Ok(above)
 }
 
-// The place of the first node, where its left half goes.
+// The place of the first node, if its left half leaves.
 fn first_parent<J: Job>(
     alloc: Global,
     below: &Level<J>,
@@ -48,7 +48,7 @@ fn first_parent<J: Job>(
     Ok(above)
 }
 
-// One place more, where it lies before `mid` and is not the last one.
+// Adds a place, if it is before `mid` and not the last one already.
 fn add_parent(above: &mut Vec<usize>, place: usize, mid: usize) -> Result<(), AllocError>
     ensures { OnOk result (IsAdded mid place above.old.items above.new.items) }
 {

@@ -1,4 +1,4 @@
-//! What stands at a node. Where only one half has leaves, a node passes their sheet up, so it has no merge.
+//! The part of a node. If only one half has leaves, a node passes their sheet up, so it has no merge.
 ghost use Rattle.std.specs.Prelude.{◌≡◌};
 ghost use Rattle.folding_tree.specs.Levels.{part_sheet};
 

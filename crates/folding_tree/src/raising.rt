@@ -1,4 +1,4 @@
-//! A draft of one level asks for one of the level over it: half as many nodes leave, come and change.
+//! The draft of a level, from that of the level below: half as many nodes leave, come and change.
 ghost use Rattle.std.specs.Prelude.{◌≡◌, ℕ, ◌+◌, ◌-◌, ◌*◌, ◌/◌, ◌<◌, ◌≤◌, List, [], true, IfOk, OnErr};
 ghost use Rattle.job_laws.specs.Counted.{RoseBy};
 ghost use Rattle.pin_table.specs.OwnEvents.{Met};
@@ -19,8 +19,8 @@ use std::alloc::{AllocError, Global};
 use std::sync::Wait;
 use tree_laws::MergeRecipe;
 
-/// The draft of the level over one that has its draft. Where it fails, no pin of it is left. It takes at most two merges,
-/// and one for each changed place and each fresh node below; each fresh node that it has is one less.
+/// Makes the draft of the level over one that has its draft. If it fails, it leaves no pin. It takes at most two
+/// merges, and one for each changed place and each fresh node below, less one for each fresh node of its own.
 pub(crate) fn raise<J: Job, W: Wait>(
     alloc: Global,
     rt: &W,
@@ -98,7 +98,7 @@ pub(crate) fn raise<J: Job, W: Wait>(
     }
 }
 
-// Where the nodes of the level over it end that have no fresh ones below.
+// The end of those nodes of the level above that have no fresh ones below.
 fn end_of_kept<J: Job>(draft: &Draft<J>, high: usize) -> usize
     ensures some { draft.now.mid < draft.now.high → result ≡ draft.now.mid / 2 }
     ensures none { draft.now.high ≤ draft.now.mid → result ≡ high }

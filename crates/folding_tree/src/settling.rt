@@ -1,5 +1,4 @@
-//! A draft that is settled takes the place of what stands: the nodes that it replaces are let go, and the others stay where
-//! they are.
+//! A settled draft replaces nodes, which are given up; the others stay at their places.
 ghost use Rattle.std.specs.Prelude.{◌≡◌, ◌++◌, ◌-◌, ◌<◌, ◌≤◌, [], ℕ, All, map, length};
 ghost use Rattle.std.specs.VecDeque.{deque_capacity};
 ghost use Rattle.record_text.specs.Shifts.{put_at};
@@ -19,8 +18,8 @@ use std::collections::VecDeque;
 use std::sync::Wait;
 use tree_laws::MergeRecipe;
 
-/// Makes of each level what its draft says, and of those without one levels without nodes. It takes no memory, and walks
-/// what goes and what comes alone.
+/// Makes of each level what its draft says, and empties the levels without a draft. It takes no memory, and walks only
+/// the nodes that leave and come.
 pub(crate) fn settle<J: Job, W: Wait>(
     rt: &W,
     memo: &Memo<MergeRecipe<J>>,
@@ -47,7 +46,7 @@ pub(crate) fn settle<J: Job, W: Wait>(
     }
 }
 
-// Lets all nodes of a level go.
+// Gives up all nodes of a level.
 fn clear<J: Job, W: Wait>(
     rt: &W,
     memo: &Memo<MergeRecipe<J>>,
@@ -107,7 +106,7 @@ fn settle_level<J: Job, W: Wait>(
     level.low = low;
 }
 
-// Puts the changed nodes at their places, where the first node has the place `low`, and lets go what stood there.
+// Puts the changed nodes at their places, where the first node has the place `low`, and gives up those before.
 fn exchange<J: Job, W: Wait>(
     rt: &W,
     memo: &Memo<MergeRecipe<J>>,

@@ -3,7 +3,7 @@ ghost use Rattle.std.specs.Prelude.{◌≡◌, ℕ, ◌+◌, ◌*◌, ◌^◌, �
 ghost use Rattle.folding_tree.specs.Shapes.{folded, with_fresh};
 ghost use Rattle.folding_tree.specs.Folding.{IsHalf, span_shape};
 
-/// Of `width` places, 2 to the height, those from `low` to `high - 1` are live.
+/// Of `width` = 2^height places those from `low` to `high - 1` are live.
 #[derive(Clone, Copy, Drop)]
 pub(crate) struct Span {
     pub(crate) height: usize,
@@ -33,7 +33,7 @@ pub(crate) fn fold(span: Span) -> Span
     span
 }
 
-// The half that is left where the other one is void.
+// The half that is left if the other one is void.
 fn live_half(span: Span) -> Option<Span>
     requires wide { span.width ≡ 2 ^ span.height }
     requires some { span.low < span.high }
@@ -62,8 +62,8 @@ fn live_half(span: Span) -> Option<Span>
     None
 }
 
-/// So many fresh leaves come behind the others, and the places are doubled while they do not suffice. None where that
-/// would be more places than can be counted.
+/// Adds `fresh` leaves after the others, and doubles the places until they suffice. `None` if there would be more
+/// places than can be counted.
 pub(crate) fn grow(span: Span, fresh: usize) -> Option<Span>
     requires wide { span.width ≡ 2 ^ span.height }
     requires fits { span.high ≤ span.width }

@@ -1,7 +1,7 @@
-//! How the leaves of a tree stand.
+//! The places of the leaves of a tree.
 
-/// The number of the first leaf's bucket, how many levels stand over the leaves, and how many places they have, 2 to this
-/// number.
+/// The number of the first leaf's bucket, the number of levels over the leaves, and the number of their places,
+/// 2^height.
 #[derive(Clone, Copy, Drop)]
 pub(crate) struct Standing {
     pub(crate) first: u64,

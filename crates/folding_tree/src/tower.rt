@@ -1,4 +1,4 @@
-//! An advance over all levels: the draft of the leaves, and from it those of the levels over them, each from the one below.
+//! An advance over all levels: the draft of the leaves, then that of each level from the one below.
 ghost use Rattle.std.specs.Prelude.{◌≡◌, ℕ, List, ◌+◌, ◌-◌, ◌*◌, ◌^◌, ◌<◌, ◌≤◌, ◌⊎◌, [], suc, true, false, All, IfOk, OnOk, OnErr, length, take, drop, ◌++◌};
 ghost use Rattle.job_laws.specs.Counted.{RoseBy};
 ghost use Rattle.sheets.specs.United.{tables_of};
@@ -27,9 +27,9 @@ use std::alloc::{AllocError, Global};
 use std::sync::Wait;
 use tree_laws::MergeRecipe;
 
-/// Makes the drafts of the shifted leaves and of all levels over them: `gone` leaves go, the ones at the `changed` places
-/// of the others become the first of the sheets, and the rest come behind them. The answer is how the leaves stand then.
-/// Out of memory, no draft stands.
+/// Makes the drafts of the shifted leaves and of all levels over them: `gone` leaves go, those at the `changed` places
+/// of the others become the first of the sheets, and the rest come after them. It returns the places of the leaves
+/// afterwards. Out of memory, there is no draft.
 pub(crate) fn advance<J: Job, W: Wait>(
     alloc: Global,
     rt: &W,
@@ -100,7 +100,7 @@ pub(crate) fn advance<J: Job, W: Wait>(
     }
 }
 
-// The places of the leaves that stay where `gone` of `count` ones go, folded.
+// The folded places of the leaves that stay if `gone` of `count` leave.
 fn span_of_kept(at: Standing, low: usize, count: usize, gone: usize) -> Span
     requires wide { at.width ≡ 2 ^ at.height }
     requires fits { low + count ≤ at.width }
@@ -129,7 +129,7 @@ fn span_of_kept(at: Standing, low: usize, count: usize, gone: usize) -> Span
     }
 }
 
-// The drafts of all levels. Where it fails, those that it made before stand there.
+// Makes the drafts of all levels. If it fails, those made before are there.
 fn build<J: Job, W: Wait>(
     alloc: Global,
     rt: &W,
@@ -209,7 +209,7 @@ fn build<J: Job, W: Wait>(
     }
 }
 
-// The drafts of the levels over the first one, each from the one below.
+// Makes the drafts of the levels over the first one, each from the one below.
 fn climb<J: Job, W: Wait>(
     alloc: Global,
     rt: &W,

@@ -1,4 +1,4 @@
-//! The tree of a window of buckets: its leaves move in their places, and the tree folds and doubles over them.
+//! The tree of a window of buckets, which folds and doubles over its leaves.
 use crate::draft::Draft;
 use crate::letting::let_drafts_go;
 use crate::level::Level;
@@ -22,10 +22,10 @@ pub struct FoldingTree<J: Job> {
     setting: u32,
     places: u32,
     at: Standing,
-    // The leaves, and over them level by level; behind those of the tree there may be some without nodes.
+    // The leaves, then the levels over them; after those of the tree there may be levels without nodes.
     levels: Vec<Level<J>>,
     draft: Option<Standing>,
-    // What becomes of the levels, where a draft stands.
+    // The drafts of the levels, if there is a draft.
     drafts: Vec<Draft<J>>,
 }
 
@@ -187,7 +187,7 @@ impl<J: Job> Tree<J> for FoldingTree<J> {
         _run: u64,
         _m: &mut J::Meter,
     ) -> Result<(), AllocError> {
-        // A field that is read brings what is known of the tree.
+        // Reading a field gives the prover the invariant of the tree.
         let _levels = &self.levels;
         Ok(())
     }

@@ -1,4 +1,4 @@
--- How counts rise: by nothing, by one call, and by one call after another.
+-- How counts increase: by nothing, by one call, and by one call after another.
 use Rattle.std.proofs.Common.{◌≡◌, ℕ, ◌+◌, ◌≤◌, sym, subst, arith}
 use Rattle.job_laws.specs.declared.meter.Counts.{Counts}
 use Rattle.job_laws.specs.Counted.{risen, risen_by, one_map, one_merge, one_join, RoseWithin, RoseBy}
@@ -8,15 +8,15 @@ use Rattle.job_laws.specs.Rows.{LaneRose, PartRose}
 pub risen_by_none : (n : ℕ) → risen_by 0 n ≡ n
 risen_by_none n = omega arith
 
--- one more after so many more
+-- one more after a number more
 pub risen_by_next : (more n : ℕ) → risen (risen_by more n) ≡ risen_by (more + 1) n
 risen_by_next more n = omega arith
 
--- so many more after so many more
+-- a number more after a number more
 pub risen_by_then : (more again n : ℕ) → risen_by again (risen_by more n) ≡ risen_by (more + again) n
 risen_by_then more again n = omega arith
 
--- a count rose within so many where it rose by them
+-- a count that increased by a number increased at most by it
 pub within_risen : (more n : ℕ) → RoseWithin more n (risen_by more n)
 within_risen more n = (omega arith, omega arith)
 
@@ -48,7 +48,7 @@ rose_merge x y is = subst (RoseBy 0 1 0 x) (sym is) record { maps = (omega arith
 pub rose_join : (x y : Counts) → y ≡ one_join x → RoseBy 0 0 1 x y
 rose_join x y is = subst (RoseBy 0 0 1 x) (sym is) record { maps = (omega arith, omega arith); merges = (omega arith, omega arith); joins = (omega arith, omega arith) }
 
--- counts that rose by no map, no merge and no join are as before
+-- counts that increased by no map, no merge and no join are unchanged
 pub same_counts : (x y : Counts) → RoseBy 0 0 0 x y → x ≡ y
 same_counts x y h =
     let still : (n m : ℕ) → RoseWithin 0 n m → n ≡ m = λ n m w. let w0 = w.0 in let w1 = w.1 in omega (arith, w0, w1) in

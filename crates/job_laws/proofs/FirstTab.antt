@@ -10,7 +10,7 @@ IsFreeUpTo i r = (j : ℕ) → j < i → get_or r j 0 ≢ 9
 no_tab : (b : ℕ) → (b ≢ 9) → (b == 9) ≡ false
 no_tab b n = grind arith
 
--- a TAB behind bytes that are none divides the record
+-- a TAB after bytes that are none divides the record
 pub split_found : (r : List ℕ) (i : ℕ) → i < length r → IsFreeUpTo i r → get_or r i 0 ≡ 9 → split_at_tab r ≡ Some (take i r, drop (i + 1) r)
 split_found [] i lt free is = absurd (omega (arith, lt))
 split_found (b ∷ bs) zero lt free is = rw is refl
@@ -21,7 +21,7 @@ split_found (b ∷ bs) (suc i) lt free is =
     let next : suc i + 1 ≡ suc (i + 1) = omega arith in
     rw (other, ih, next) refl
 
--- where no byte is TAB, nothing divides it
+-- if no byte is TAB, nothing divides it
 pub split_none : (r : List ℕ) → IsFreeUpTo (length r) r → split_at_tab r ≡ None
 split_none [] free = refl
 split_none (b ∷ bs) free =

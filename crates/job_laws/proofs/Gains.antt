@@ -1,4 +1,4 @@
--- What was gained where a call gave up, or went on.
+-- What was appended by a call that failed, or succeeded.
 use Rattle.std.proofs.Common.{◌≡◌, ℕ, ◌+◌, ◌<◌, List, [], ◌∷◌, ◌++◌, length, get_or, take, drop, refl, sym, ap, subst, ◌∙◌, append-nil, append_assoc}
 use Rattle.std.specs.Prelude.{Result, Ok, Err, OnErr, is_ok, if◌then◌else◌}
 use Rattle.std.specs.List.{flat_map}
@@ -15,12 +15,12 @@ gains_nothing all old = ([], (all, refl), sym (append-nil old))
 pub gains_no_pairs : {V : Type 0} (all old : List (List ℕ × V)) → GainsPairs all old old
 gains_no_pairs all old = ([], all, refl, sym (append-nil old))
 
--- where the call gave up, nothing was gained
+-- nothing was gained if the call failed
 pub gains_unless_ok : {A E : Type 0} (r : Result A E) (all more old new : List ℕ) → new ≡ (if is_ok r then old ++ more else old) → OnErr r (GainsPrefix all old new)
 gains_unless_ok (Ok x) all more old new is = tt
 gains_unless_ok (Err e) all more old new is = subst (GainsPrefix all old) (sym is) (gains_nothing all old)
 
--- a piece was gained, and the rest is behind it
+-- a piece was gained, and the rest is after it
 pub gains_before : (before rest all old new : List ℕ) → all ≡ before ++ rest → new ≡ old ++ before → GainsPrefix all old new
 gains_before before rest all old new is at = (before, (rest, is), at)
 
@@ -57,7 +57,7 @@ module _ {V : Type 0} where
   pub emitted_prefix : (all old now new rest : List (List ℕ × V)) → Emitted all old now rest → new ≡ now → GainsPairs all old new
   emitted_prefix all old now new rest e same = (e.gain, rest, sym e.parts, same ∙ e.is)
 
-  -- where nothing is left, all pairs were emitted
+  -- if nothing is left, all pairs were emitted
   pub emitted_end : (all old now rest : List (List ℕ × V)) → Emitted all old now rest → rest ≡ [] → now ≡ old ++ all
   emitted_end all old now rest e done = e.is ∙ ap (λ l. old ++ l) (sym (append-nil e.gain) ∙ ap (λ l. e.gain ++ l) (sym done) ∙ e.parts)
 

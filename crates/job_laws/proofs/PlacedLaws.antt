@@ -20,7 +20,7 @@ all_push P [] x all px (suc k) d lt = absurd (omega arith)
 all_push P (y ∷ xs) x all px zero d lt = all 0 d (omega arith)
 all_push P (y ∷ xs) x all px (suc k) d lt = all_push P xs x (λ k d lt. all (suc k) d (omega arith)) px k d (omega arith)
 
--- bytes behind a text change no piece in it
+-- bytes after a text change no piece in it
 piece_kept : (bytes more : List ℕ) (from to : ℕ) → from ≤ to → to ≤ length bytes → take (to - from) (drop from (bytes ++ more)) ≡ take (to - from) (drop from bytes)
 piece_kept bytes more from to low high =
     ap (λ (l : List ℕ). take (to - from) l) (drop-append-le from bytes more (omega (arith, low, high)))

@@ -1,4 +1,4 @@
--- How a row of meters rises: by nothing, by one meter in its place, and by one call after another.
+-- How a row of meters increases: by nothing, by one meter in its place, and by one call after another.
 use Rattle.std.proofs.Common.{◌≡◌, ◌≢◌, ℕ, zero, suc, ◌+◌, ◌<◌, ◌≤◌, ◌==◌, true, false, List, [], ◌∷◌, length, refl, sym, ap, subst, ◌∙◌, arith}
 use Rattle.std.proofs.lemmas.List.{get_or-set_same, get_or-set_other, get_or_read}
 use Rattle.std.specs.Prelude.{slice_index_or, slice_set}
@@ -32,7 +32,7 @@ sum_of-set count [] k m d h = absurd (omega (arith, h))
 sum_of-set count (x ∷ ms) zero m d h = omega arith
 sum_of-set count (x ∷ ms) (suc k) m d h = let rest = sum_of-set count ms k m d (omega (arith, h)) in omega (arith, rest)
 
--- one meter's count rose within so many, and so did the sum
+-- if one meter's count increased at most by a number, so did the sum
 pub sum_rose : {M : Type 0} (count : M → ℕ) (most : ℕ) (ms : List M) (k : ℕ) (m n : M) → k < length ms → m ≡ slice_index_or ms k m → count n ≤ count m + most → sum_of count (slice_set ms k n) ≤ sum_of count ms + most
 sum_rose count most ms k m n within at rose =
     let all = sum_of-set count ms k n m within in
@@ -84,14 +84,14 @@ module _ {M : Type 0} (counts : M → Counts) where
     parts = λ i d. let a = h.parts i d in omega (arith, q, a);
   }
 
-  -- one call worked, and then another
+  -- one call did its work, and then another
   pub worked_then : (records leaves more_records more_leaves : ℕ) (r s t : Row M) → WorkedWithin counts records leaves r s → WorkedWithin counts more_records more_leaves s t → WorkedWithin counts (records + more_records) (leaves + more_leaves) r t
   worked_then records leaves more_records more_leaves r s t h k = record {
     lanes = let a = h.lanes in let b = k.lanes in omega (arith, a, b);
     parts = λ i d. let a = h.parts i d in let b = k.parts i d in omega (arith, a, b);
   }
 
-  -- The parts before a place counted a merge at the most, and those from it on none.
+  -- The parts before a place counted at most one merge each, and those from it on none.
   pub record MergedBefore (n : ℕ) (old new : List M) : Type 0 where
     pub before : (i : ℕ) (d : M) → (counts (slice_index_or new i d)).merges ≤ (counts (slice_index_or old i d)).merges + 1
     pub after : (i : ℕ) (d : M) → n ≤ i → (counts (slice_index_or new i d)).merges ≤ (counts (slice_index_or old i d)).merges
@@ -115,6 +115,6 @@ module _ {M : Type 0} (counts : M → Counts) where
         (λ differ. h.after i d (omega (arith, far)));
   }
 
-  -- the lanes mapped so many records, and parts up to a place merged
+  -- the lanes mapped a number of records, and the parts up to a place merged
   pub worked_by : (records n : ℕ) (r s : Row M) → sum_of (λ m. (counts m).maps) s.lanes ≤ sum_of (λ m. (counts m).maps) r.lanes + records → MergedBefore n r.parts s.parts → WorkedWithin counts records 1 r s
   worked_by records n r s mapped merged = record { lanes = mapped; parts = merged.before }

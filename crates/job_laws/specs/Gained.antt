@@ -1,6 +1,6 @@
 -- What a list of pairs gained.
 use Rattle.std.specs.Prelude.{◌≡◌, ℕ, List, ◌++◌}
 
--- Some pairs were gained at the end, which are a prefix of all.
+-- Pairs were added at the end, and those added are a prefix of all.
 abbrev pub GainsPairs : {V : Type 0} → List (List ℕ × V) → List (List ℕ × V) → List (List ℕ × V) → Type 0
 GainsPairs {V} all old new = (gain : List (List ℕ × V)) × (rest : List (List ℕ × V)) × (all ≡ gain ++ rest) × (new ≡ old ++ gain)

@@ -9,7 +9,7 @@ pub record Meaning (V : Type 0) : Type 0 where
   pub joined : V → V → V
   pub text : List ℕ → V → List ℕ
 
--- What a job means that is set to a number.
+-- What a job means at a setting.
 abbrev pub meaning_at : {J V M : Type 0} → Jobs.Ghosts J V M → ℕ → Meaning V
 meaning_at g s = record { accepts = g.accepts s; emits = g.emits s; joined = g.joined s; text = g.text s }
 
@@ -17,6 +17,6 @@ meaning_at g s = record { accepts = g.accepts s; emits = g.emits s; joined = g.j
 abbrev pub meaning_of : {J V M : Type 0} → Jobs.Ghosts J V M → J → Meaning V
 meaning_of g job = meaning_at g (g.setting job)
 
--- Each of these records is accepted.
+-- All of these records are accepted.
 abbrev pub AllAccepted : {V : Type 0} → Meaning V → List (List ℕ) → Type 0
 AllAccepted m records = All (λ r. IsTrue (m.accepts r)) records

@@ -11,11 +11,11 @@ placed_pair bytes p = (take (p.to - p.from) (drop p.from bytes), p.val)
 abbrev pub placed_pairs : {V : Type 0} → List ℕ → List (Placed V) → List (List ℕ × V)
 placed_pairs bytes ps = map (placed_pair bytes) ps
 
--- A place lies in a text of so many bytes.
+-- A place is within a text of this many bytes.
 abbrev pub LiesIn : {V : Type 0} → ℕ → Placed V → Type 0
 LiesIn size p = (p.from ≤ p.to) × (p.to ≤ size)
 
--- Each place lies in the text, and its bytes are a key.
+-- Each place is within the text, and its bytes are a key.
 pub record ArePlaced {V : Type 0} (bytes : List ℕ) (ps : List (Placed V)) : Type 0 where
   pub inside : All (LiesIn (length bytes)) ps
   pub keys : All (λ p. IsKey (placed_pair bytes p).0) ps

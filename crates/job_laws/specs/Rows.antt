@@ -26,8 +26,8 @@ module _ {M : Type 0} (counts : M → Counts) where
     pub lanes : (i : ℕ) (d : M) → LaneRose (counts (slice_index_or old.lanes i d)) (counts (slice_index_or new.lanes i d))
     pub parts : (i : ℕ) (d : M) → PartRose (counts (slice_index_or old.parts i d)) (counts (slice_index_or new.parts i d))
 
-  -- A run over so many records in so many leaves counted at the most: the lanes together a map for each record, and each
-  -- part a merge for each leaf.
+  -- The most that a run over `records` records in `leaves` leaves counts: the lanes together a map for each record, and
+  -- each part a merge for each leaf.
   pub record WorkedWithin (records leaves : ℕ) (old new : Row M) : Type 0 where
     pub lanes : sum_of (λ m. (counts m).maps) new.lanes ≤ sum_of (λ m. (counts m).maps) old.lanes + records
     pub parts : (i : ℕ) (d : M) → (counts (slice_index_or new.parts i d)).merges ≤ (counts (slice_index_or old.parts i d)).merges + leaves

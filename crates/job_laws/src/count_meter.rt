@@ -1,10 +1,10 @@
-//! The meter that a program makes for itself.
+//! The meter that a program makes.
 ghost use Rattle.std.specs.Prelude.{◌≡◌};
 
 use crate::{Counts, Meter};
 use std::marker::Model;
 
-/// A meter that starts at zero. It is seen as its counts.
+/// A meter that starts at zero. It is modelled by its counts.
 #[derive(Drop)]
 pub struct CountMeter {
     counts: Counts,
@@ -19,7 +19,7 @@ impl Model for CountMeter {
 }
 
 impl CountMeter {
-    /// All counts are zero.
+    /// A meter whose counts are zero.
     pub fn new() -> CountMeter
         ensures { result ≡ record { maps = 0; merges = 0; joins = 0 } }
     {

@@ -5,7 +5,7 @@ ghost use Rattle.definitions.specs.Tables.{IsKey};
 use std::alloc::{AllocError, Global};
 use std::marker::Model;
 
-/// A value, and where the bytes of its key stand.
+/// A value, and the place of its key's bytes.
 #[derive(Drop)]
 struct Placed<V> {
     from: usize,
@@ -13,7 +13,8 @@ struct Placed<V> {
     val: V,
 }
 
-/// Pairs of a key and a value, in the order in which they were put. The keys' bytes are held in one piece.
+/// Pairs of a key and a value, in the order in which they were put, modelled as that list. The keys' bytes are held in
+/// one buffer, so that a pair costs no allocation.
 #[derive(Drop)]
 pub struct Emit<V> {
     bytes: Vec<u8>,
@@ -32,7 +33,7 @@ impl<V> Model for Emit<V> {
 }
 
 impl<V: Drop> Emit<V> {
-    /// No pairs.
+    /// No pairs. It takes no memory.
     pub fn new(alloc: Global) -> Emit<V>
         ensures { result ≡ [] }
     {
@@ -42,7 +43,7 @@ impl<V: Drop> Emit<V> {
         }
     }
 
-    /// One more pair at the end. The key's bytes are copied.
+    /// Adds a pair at the end. The key has 1 to 65,535 bytes, which are copied. Out of memory, nothing is added.
     pub fn put(&mut self, key: &[u8], val: V) -> Result<(), AllocError>
         requires { IsKey key.now }
         ensures ok { OnOk result (self.new ≡ self.old ++ (key.now, val) ∷ []) }
@@ -76,7 +77,7 @@ impl<V: Drop> Emit<V> {
         (&self.bytes[place.from..place.to], &place.val)
     }
 
-    /// The first pairs alone.
+    /// Keeps the first `n` pairs.
     pub fn truncate(&mut self, n: usize)
         ensures { self.new ≡ take n self.old }
     {

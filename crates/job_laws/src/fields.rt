@@ -3,7 +3,7 @@ ghost use Rattle.std.specs.Prelude.{◌≡◌, ◌≤◌, length};
 ghost use Rattle.job_laws.specs.Forms.{split_at_tab};
 ghost use Rattle.job_laws.specs.Fields.{fields_at};
 
-/// The place of the first TAB, or the length where there is none. It is one pass.
+/// The place of the first TAB, or the length if there is none. It is one pass, and takes no memory.
 pub fn tab_at(r: &[u8]) -> usize
     ensures fits { result ≤ length r.now }
     ensures fields { split_at_tab r.now ≡ fields_at result r.now }

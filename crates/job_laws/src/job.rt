@@ -1,4 +1,4 @@
-//! What a job is to whoever runs it: its meaning, its calls, and the laws that it must prove.
+//! The trait of jobs: the meaning of a job, its calls, and the laws that it must prove.
 ghost use Rattle.std.specs.Prelude.{◌≡◌, ℕ, Bool, List, ◌++◌, IsTrue, ◌↔◌, IfOk, OnOk, OnErr};
 ghost use Rattle.definitions.specs.Outside.{GainsPrefix};
 ghost use Rattle.definitions.specs.Tables.{HasGoodValues, IsGoodJoin};
@@ -8,11 +8,11 @@ ghost use Rattle.job_laws.specs.Gained.{GainsPairs};
 use crate::{Emit, Key, Meter};
 use std::alloc::{AllocError, Global};
 
-/// A job. What it means is a function of the number that it is set to; what a value is encoded as is one of the type.
-/// `specs/Meanings.antt` has the meaning at one setting as one value. A job need not be `Send`: whoever starts threads
-/// asks for that.
+/// A job. Its meanings take the number that it is set to, except `encoded`, which is the same at each setting.
+/// `specs/Meanings.antt` has the meaning at one setting as one value. A job need not be `Send`: code that starts
+/// threads has that bound.
 pub trait Job: Drop {
-    /// What stands with a key.
+    /// The value of a key.
     type Val: Drop;
 
     type Meter: Meter;
@@ -26,7 +26,7 @@ pub trait Job: Drop {
     // The pairs of a record, in order.
     ghost emits: { ℕ → List ℕ → List (List ℕ × Self.Val) };
 
-    // What two values of a key become, of which the left came first.
+    // Two values of a key joined; the left one came first.
     ghost joined: { ℕ → Self.Val → Self.Val → Self.Val };
 
     // The values that may be joined and written.
@@ -35,18 +35,18 @@ pub trait Job: Drop {
     // The lines of a key with its value.
     ghost text: { ℕ → List ℕ → Self.Val → List ℕ };
 
-    // What a value is written as in a digest.
+    // The bytes of a value in a digest.
     ghost encoded: { Self.Val → List ℕ };
 
     /// The number that the job is set to.
     fn setting(&self) -> u32
         ensures { result ≡ setting self.now };
 
-    /// Whether the job accepts the bytes `r`. It takes no memory.
+    /// Whether the job accepts the bytes `r` as a record. It takes no memory.
     fn accepts(&self, r: &[u8]) -> bool
         ensures { result ≡ accepts (setting self.now) r.now };
 
-    /// Appends the pairs of the accepted record `r` to `out`; where memory runs out, a prefix of them.
+    /// Appends the pairs of the accepted record `r` to `out`, and counts one map; out of memory, a prefix of them.
     fn map(
         &self,
         alloc: Global,
@@ -58,10 +58,10 @@ pub trait Job: Drop {
         ensures ok { OnOk result (out.new ≡ out.old ++ emits (setting self.now) r.now) }
         ensures err { OnErr result (GainsPairs (emits (setting self.now) r.now) out.old out.new) }
 
-        // Whatever it answers, one record was mapped.
+        // Whatever it returns, one record was mapped.
         ensures counted { Self.Meter.counts m.new ≡ one_map (Self.Meter.counts m.old) };
 
-    /// The value that joins `a` with `b`, of which `a` came first.
+    /// Joins `a` with `b`, of which `a` came first, and counts one join.
     fn combine(
         &self,
         alloc: Global,
@@ -73,10 +73,10 @@ pub trait Job: Drop {
         requires right { good (setting self.now) b.now }
         ensures ok { IfOk result (λ v. v ≡ joined (setting self.now) a.now b.now) }
 
-        // Whatever it answers, two values were joined.
+        // Whatever it returns, two values were joined.
         ensures counted { Self.Meter.counts m.new ≡ one_join (Self.Meter.counts m.old) };
 
-    /// Appends the lines of the key `k` with its value `v` to `out`; where memory runs out, a prefix of them.
+    /// Appends the lines of the key `k` with its value `v` to `out`; out of memory, a prefix of them.
     fn line(
         &self,
         alloc: Global,
@@ -96,7 +96,7 @@ pub trait Job: Drop {
     fn same(a: &Self::Val, b: &Self::Val) -> bool
         ensures { IsTrue result ↔ (a.now ≡ b.now) };
 
-    /// Appends to `out` what `v` is encoded as; where memory runs out, a prefix of it.
+    /// Appends the encoding of `v` to `out`; out of memory, a prefix of it.
     fn encode(v: &Self::Val, out: &mut Vec<u8>) -> Result<(), AllocError>
         ensures ok { OnOk result (out.new.items ≡ out.old.items ++ encoded v.now) }
         ensures err { OnErr result (GainsPrefix (encoded v.now) out.old.items out.new.items) };

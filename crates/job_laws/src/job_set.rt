@@ -1,13 +1,13 @@
-//! The jobs that a program is handed.
+//! The set of jobs of a program.
 ghost use Rattle.std.specs.Prelude.{◌≡◌, ◌≤◌, ℕ, List};
 ghost use Rattle.definitions.specs.Limits.{most_members};
 ghost use Rattle.job_laws.specs.Forms.{is_count_record, is_index_record, is_topk_record, is_latest_record};
 
 use crate::{Job, Meter, Swaps};
 
-/// The jobs that a program is handed, with one meter. Nothing is said of what they emit, join and write beyond the
-/// laws of [`crate::Job`] and [`Swaps`], so a program makes values by their calls alone. Its calls take no memory. Jobs,
-/// values and meters may go to other threads, which no job has to allow by itself.
+/// The jobs of a program, with one type of meter. Nothing is known of what they emit, join and write beyond the laws of
+/// [`crate::Job`] and [`Swaps`], so a program makes values only by their calls. The calls here take no memory. Jobs,
+/// values and meters can go to other threads, which [`crate::Job`] alone does not require.
 pub trait JobSet {
     type Meter: Meter + Send + Sync;
 

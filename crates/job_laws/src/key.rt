@@ -7,7 +7,7 @@ use std::cmp::Ordering;
 use std::marker::Model;
 use std::sync::ArcSlice;
 
-/// A key: 1 to 65,535 bytes, ordered bytewise. Its bytes are shared and never change.
+/// A key: 1 to 65,535 bytes, ordered bytewise, modelled as these bytes. They are shared and never change.
 #[derive(Drop)]
 pub struct Key {
     bytes: ArcSlice<u8>,
@@ -26,7 +26,7 @@ impl Model for Key {
 }
 
 impl Key {
-    /// The key of these bytes, which are copied.
+    /// The key of these 1 to 65,535 bytes, which are copied.
     pub fn of(alloc: Global, bytes: &[u8]) -> Result<Key, AllocError>
         requires { IsKey bytes.now }
         ensures { IfOk result (λ key. key ≡ bytes.now) }
@@ -43,7 +43,7 @@ impl Key {
         self.bytes.as_slice()
     }
 
-    /// The same key once more. No byte is copied; it fails only where the count of its owners is full.
+    /// Another owner of the same key. No byte is copied; it fails only if the count of owners is full.
     pub fn share(&self) -> Result<Key, AllocError>
         ensures { IfOk result (λ key. key ≡ self.now) }
     {

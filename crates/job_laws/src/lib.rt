@@ -1,6 +1,6 @@
 //! What a job is: the pairs that it makes of a record, how it joins two values of one key, the lines that it writes,
-//! and the laws of all three. Start at [`Job`]; [`JobSet`] is the jobs that a program is handed. [`Meter`] counts what
-//! was mapped, merged and joined, and code that is handed one can't make another. Nothing here knows a window or a tree.
+//! and the laws of all three. Start at [`Job`]; [`JobSet`] is the set of jobs of a program. [`Meter`] counts what was
+//! mapped, merged and joined, and code that is given one cannot make another. Nothing here knows of windows or trees.
 #![tactic(auto)]
 
 mod count_meter;

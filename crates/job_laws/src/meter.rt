@@ -10,7 +10,7 @@ pub struct Counts {
     pub joins: u64,
 }
 
-/// Counts calls. There is no call that makes one, so generic code counts on those that it is handed.
+/// Counts calls. No call of the trait makes a meter, so generic code counts on those that it is given.
 pub trait Meter: Drop {
     ghost use Rattle.job_laws.specs.declared.meter.Counts.{Counts};
 

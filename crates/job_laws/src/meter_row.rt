@@ -2,8 +2,8 @@
 use crate::Meter;
 use std::marker::Model;
 
-/// The meters of the 16 lanes that map, and of the 16 parts that merge. It is seen as both lists; a call that takes a row
-/// leaves the same meters in their places.
+/// The meters of the 16 lanes that map, and of the 16 parts that merge. It is modelled by both lists; a call that takes
+/// a row leaves each meter in its place.
 #[derive(Drop)]
 pub struct MeterRow<M: Meter> {
     pub lanes: Vec<M>,

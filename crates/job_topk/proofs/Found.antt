@@ -8,7 +8,7 @@ use Rattle.job_laws.specs.Fields.{fields_at}
 use Rattle.job_laws.specs.Forms.{split_at_tab, fields_pass, has_bytes, is_short, is_topk_record}
 use Rattle.job_topk.specs.TopK.{member_pair, group_pair, topk_emits}
 
--- where a test of both fields passes, the place of the first TAB is one
+-- if a test of both fields passes, the place of the first TAB is one
 some_fields : (i : ℕ) (l : List ℕ) (test : List ℕ → List ℕ → Bool) → split_at_tab l ≡ fields_at i l → IsTrue (fields_pass test (split_at_tab l)) → split_at_tab l ≡ Some (take i l, drop (i + 1) l)
 some_fields i l test found passes = found ∙ by (nat_lt i (length l)) refl
   where

@@ -13,7 +13,7 @@ use Rattle.job_topk.specs.Merging.{in_order_into, in_order, IsFirstOf, IsOrdered
 use Rattle.job_topk.specs.TopK.{member_pair, group_pair, topk_emits, member_cmp, topk_joined, topk_good}
 
 module _ {A : Type 0} (R : A → A → Ordering) where
-  -- The first k of a merge are of the first k of the left list.
+  -- The first k of a merge are among the first k of the left list.
   take_left : (k j : ℕ) (a b : List A) → k ≤ j → take k (in_order R (take j a) b) ≡ take k (in_order R a b)
   take_left zero j a b le = refl
   take_left (suc k) zero a b le = absurd (omega (arith, le))
@@ -75,18 +75,18 @@ module _ {A : Type 0} {R : A → A → Ordering} (order : IsTotalOrder R) (ties 
   greater Equal h = cc
   greater Greater h = refl
 
-  -- What stands behind another stands before nothing that stands behind it.
+  -- If x comes after y, y does not come after x.
   turned : (x y : A) → is_gt (R x y) ≡ true → is_gt (R y x) ≡ false
   turned x y h = rw (order.antisymm y x, greater (R x y) h) refl
 
-  -- What stands behind a second that stands behind a third stands behind it.
+  -- Coming after is transitive.
   chained : (x y z : A) → is_gt (R x y) ≡ true → is_gt (R y z) ≡ true → is_gt (R x z) ≡ true
   chained x y z h g =
       let yx : R y x ≡ Less = order.antisymm y x ∙ ap ordering_reverse (greater (R x y) h) in
       let zy : R z y ≡ Less = order.antisymm z y ∙ ap ordering_reverse (greater (R y z) g) in
       rw (order.antisymm x z, order.trans z y x zy yx) refl
 
-  -- What stands before one that stands behind a third stands behind it.
+  -- If x comes after z and not after y, y comes after z.
   passed : (x y z : A) → is_gt (R x y) ≡ false → is_gt (R x z) ≡ true → is_gt (R y z) ≡ true
   passed x y z h g = by (is_gt (R y z)) refl
     where
@@ -194,7 +194,7 @@ module _ {A : Type 0} {R : A → A → Ordering} (order : IsTotalOrder R) (ties 
           ∙ ap (λ m. m ∷ in_order R ys (x ∷ xs)) same
           ∙ sym (ahead R y ys x xs yx)
 
-  -- What stands behind no member of a list that starts later.
+  -- If x does not come after y, and y after none of a list, x comes after none of it.
   first_chain : (x y : A) (b : List A) → is_gt (R x y) ≡ false → IsFirstOf R y b → IsFirstOf R x b
   first_chain x y [] h f = tt
   first_chain x y (z ∷ zs) h f = (upto order x y z h f.0, first_chain x y zs h f.1)
@@ -211,11 +211,11 @@ module _ {A : Type 0} {R : A → A → Ordering} (order : IsTotalOrder R) (ties 
           subst (IsOrdered R) (sym (behind R x xs y ys is)) (first_merge R y (x ∷ xs) (low, first_chain y x xs low o.0) ys p.0, ih1)
       by false is ih1 ih2 = subst (IsOrdered R) (sym (ahead R x xs y ys is)) (first_merge R x xs o.0 (y ∷ ys) (is, first_chain x y ys is p.0), ih2)
 
--- Members are in one order.
+-- The order of members is total.
 member_order : IsTotalOrder member_cmp
 member_order = then_total (on_total (λ m. m.0) (back_total nat_cmp_total)) (on_total (λ m. m.1) nat_list_cmp_total)
 
--- Members that tie are the same.
+-- Members that tie are equal.
 member_ties : (a b : ℕ × List ℕ) → member_cmp a b ≡ Equal → a ≡ b
 member_ties a b h =
     let score : nat_cmp b.0 a.0 ≡ Equal = one (nat_cmp b.0 a.0) (key_cmp a.1 b.1) h in

@@ -4,7 +4,7 @@ use Rattle.std.specs.declared.cmp.Ordering.{Ordering}
 use Rattle.std.specs.Ordering.{is_gt}
 
 module _ {A : Type 0} (R : A → A → Ordering) where
-  -- A member and the rest after it, merged with the others: the left one first where they tie.
+  -- A member and the rest after it, merged with the others: the left one first if they tie.
   abbrev pub in_order_into : A → (List A → List A) → List A → List A
   in_order_into a rest [] = a ∷ rest []
   in_order_into a rest (b ∷ bs) = cond (is_gt (R a b)) (b ∷ in_order_into a rest bs) (a ∷ rest (b ∷ bs))
@@ -14,12 +14,12 @@ module _ {A : Type 0} (R : A → A → Ordering) where
   in_order [] bs = bs
   in_order (a ∷ as') bs = in_order_into a (in_order as') bs
 
-  -- The member stands behind none of the list.
+  -- The member comes after none of the list.
   abbrev pub IsFirstOf : A → List A → Type 0
   IsFirstOf a [] = Unit {0}
   IsFirstOf a (b ∷ bs) = (is_gt (R a b) ≡ false) × IsFirstOf a bs
 
-  -- Each member stands behind none of those after it.
+  -- Each member comes after none of those after it.
   abbrev pub IsOrdered : List A → Type 0
   IsOrdered [] = Unit {0}
   IsOrdered (a ∷ as') = IsFirstOf a as' × IsOrdered as'

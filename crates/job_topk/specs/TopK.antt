@@ -9,7 +9,7 @@ use Rattle.job_laws.specs.Forms.{split_at_tab}
 use Rattle.job_laws.specs.Encoding.{be32}
 use Rattle.job_topk.specs.Merging.{in_order, IsOrdered}
 
--- The group with the list of score and item alone, where both TABs are there.
+-- The group with the list of one member, if there are both TABs.
 abbrev pub member_pair : List ℕ → Option (List ℕ × List ℕ) → List (List ℕ × List (ℕ × List ℕ))
 member_pair group None = []
 member_pair group (Some p) = (group, (digits_value p.0, p.1) ∷ []) ∷ []
@@ -19,7 +19,7 @@ abbrev pub group_pair : Option (List ℕ × List ℕ) → List (List ℕ × List
 group_pair None = []
 group_pair (Some p) = member_pair p.0 (split_at_tab p.1)
 
--- The group with the list of score and item alone.
+-- The group with the list of one member.
 abbrev pub topk_emits : List ℕ → List (List ℕ × List (ℕ × List ℕ))
 topk_emits r = group_pair (split_at_tab r)
 
@@ -31,7 +31,7 @@ member_cmp = then_cmp (on (λ m. m.0) (flip_args nat_cmp)) (on (λ m. m.1) key_c
 abbrev pub topk_joined : ℕ → List (ℕ × List ℕ) → List (ℕ × List ℕ) → List (ℕ × List ℕ)
 topk_joined k a b = take k (in_order member_cmp a b)
 
--- A list in this order has at most k members; one member alone is good at every k.
+-- A list in this order of at most k members; a list of one member is good at every k.
 abbrev pub topk_good : ℕ → List (ℕ × List ℕ) → Type 0
 topk_good k v = (length v ≤ max k 1) × IsOrdered member_cmp v
 

@@ -1,5 +1,6 @@
-//! The job [`TopK`]: the members of the highest scores of each group. Its meanings are definitions in `specs/`, and its
-//! laws are proved for every value. Joining is one merge of linear cost, which never holds more members than it keeps.
+//! The job [`TopK`]: the members with the highest scores in each group. Its meanings are definitions in `specs/`, and
+//! its laws are proved for every value. Joining is one merge of at most `k` steps, which never holds more members than
+//! it keeps.
 #![tactic(auto)]
 
 mod members;

@@ -1,4 +1,4 @@
-//! What stands with a group.
+//! The value of a group.
 ghost use Rattle.std.specs.Prelude.{◌≡◌, ◌++◌, [], ◌∷◌, IfOk, OnOk, OnErr};
 ghost use Rattle.std.specs.Ordering.{is_gt};
 ghost use Rattle.job_topk.specs.TopK.{member_cmp};
@@ -7,7 +7,7 @@ use jobs_basic::Bytes;
 use std::alloc::{AllocError, Global};
 use std::marker::Model;
 
-/// The members of a group: scores, each with an item.
+/// The members of a group: scores, each with an item, modelled as that list.
 #[derive(Drop)]
 pub struct Members {
     members: Vec<(u32, Bytes)>,
@@ -21,7 +21,7 @@ impl Model for Members {
     ghost view = { λ m. m.members.items };
 }
 
-/// Whether `a` stands behind `b`: its score is lower, or the same and its item is higher in the order of bytes.
+/// Whether `a` comes after `b`: its score is lower, or equal and its item is higher in byte order.
 pub fn is_behind(a: &(u32, Bytes), b: &(u32, Bytes)) -> bool
     ensures { result ≡ is_gt (member_cmp a.now b.now) }
 {
@@ -29,7 +29,7 @@ pub fn is_behind(a: &(u32, Bytes), b: &(u32, Bytes)) -> bool
 }
 
 impl Members {
-    /// No members, with room for so many.
+    /// No members, with room for `most`.
     pub fn with_room(alloc: Global, most: usize) -> Result<Members, AllocError>
         ensures { IfOk result (λ m. m ≡ []) }
     {
@@ -37,7 +37,7 @@ impl Members {
         Ok(Members { members })
     }
 
-    /// One member alone.
+    /// The list of one member.
     pub fn of(alloc: Global, score: u32, item: Bytes) -> Result<Members, AllocError>
         ensures { IfOk result (λ m. m ≡ (score, item) ∷ []) }
     {
@@ -46,7 +46,7 @@ impl Members {
         Ok(Members { members })
     }
 
-    /// One more member at the end, whose item is shared.
+    /// Adds a member at the end, whose item is shared.
     pub fn push(&mut self, member: &(u32, Bytes)) -> Result<(), AllocError>
         ensures ok { OnOk result (self.new ≡ self.old ++ member.now ∷ []) }
         ensures err { OnErr result (self.new ≡ self.old) }

@@ -8,8 +8,8 @@ use crate::members::is_behind;
 use jobs_basic::Bytes;
 use std::alloc::{AllocError, Global};
 
-/// The first `most` members of both lists merged. It is one pass, which ends at the last member that is kept; room is
-/// taken once, for no more than are kept.
+/// The first `most` members of both lists merged. It is one pass, which ends at the last member that is kept; memory is
+/// taken once, for no more members than are kept.
 pub fn merge_first(
     alloc: Global,
     most: u32,

@@ -12,7 +12,7 @@ fn swaps<J: Swaps>(_job: &J) {
     merging_commutes::<J>();
 }
 
-// The pairs that the accepted ones of the records emit, each as its key and what its value is encoded as.
+// The pairs that the accepted records emit, each as its key and the encoding of its value.
 fn pairs<J: Job>(
     alloc: Global,
     job: &J,
@@ -35,7 +35,7 @@ fn pairs<J: Job>(
     Ok(text)
 }
 
-// One member, which is good at each setting.
+// The list of one member, which is good at each setting.
 fn member(alloc: Global, score: u32, item: &[u8]) -> Result<Members, AllocError>
     requires { length item.now ≤ 65535 }
     ensures { IfOk result (λ m. (k : ℕ) → topk_good k m) }

@@ -1,4 +1,4 @@
-//! The job that keeps the members of the highest scores of each group.
+//! The job that keeps the members with the highest scores in each group.
 ghost use Rattle.std.specs.Prelude.{◌≡◌, ◌≤◌, ◌++◌, ◌↔◌, IsTrue, OnOk, OnErr, SomeIff};
 ghost use Rattle.definitions.specs.Limits.{most_members};
 ghost use Rattle.definitions.specs.Outside.{GainsPrefix};
@@ -16,9 +16,9 @@ use record_text::parse_number;
 use std::alloc::{AllocError, Global};
 use std::marker::{Model, PhantomData};
 
-/// The members of the highest scores of each group, up to `k`, which is the setting. A record is the group, a TAB, the
-/// score, a TAB and the item; the group is not empty, the score is a number, and the item is the rest, TABs included.
-/// Scores fall, and items of one score rise bytewise; a member that comes twice stands twice.
+/// The `k` members with the highest scores in each group; `k` is the setting. A record is the group, a TAB, the score,
+/// a TAB and the item; the group is not empty, the score is a number, and the item is the rest, TABs included. Scores
+/// fall, and items of one score rise in byte order; repeated members are kept.
 #[derive(Drop)]
 pub struct TopK<M: Meter> {
     most: u32,
@@ -34,7 +34,7 @@ impl<M: Meter> Model for TopK<M> {
 }
 
 impl<M: Meter> TopK<M> {
-    /// The job that keeps `k` members; `None` exactly where `k` is outside 1 to 1000.
+    /// The job that keeps `k` members; `None` exactly if `k` is not 1 to 1000.
     pub fn new(k: u32) -> Option<TopK<M>>
         ensures { SomeIff result ((1 ≤ k) × (k ≤ most_members)) k }
     {
@@ -48,7 +48,7 @@ impl<M: Meter> TopK<M> {
     }
 }
 
-// Appends a score between two TABs; where memory runs out, a prefix of it.
+// Appends a score between two TABs; out of memory, a prefix of it.
 fn put_score(score: u32, out: &mut Vec<u8>) -> Result<(), AllocError>
     ensures ok { OnOk result (out.new.items ≡ out.old.items ++ score_text score) }
     ensures err { OnErr result (GainsPrefix (score_text score) out.old.items out.new.items) }
@@ -60,7 +60,7 @@ fn put_score(score: u32, out: &mut Vec<u8>) -> Result<(), AllocError>
     Ok(())
 }
 
-// Appends an item with its LF; where memory runs out, a prefix of them.
+// Appends an item with its LF; out of memory, a prefix of them.
 fn put_item(item: &[u8], out: &mut Vec<u8>) -> Result<(), AllocError>
     ensures ok { OnOk result (out.new.items ≡ out.old.items ++ item_text item.now) }
     ensures err { OnErr result (GainsPrefix (item_text item.now) out.old.items out.new.items) }
@@ -70,7 +70,7 @@ fn put_item(item: &[u8], out: &mut Vec<u8>) -> Result<(), AllocError>
     Ok(())
 }
 
-// Appends the line of a group with one member; where memory runs out, a prefix of it.
+// Appends the line of a group with one member; out of memory, a prefix of it.
 fn put_member(group: &[u8], member: &(u32, Bytes), out: &mut Vec<u8>) -> Result<(), AllocError>
     ensures ok { OnOk result (out.new.items ≡ out.old.items ++ member_text group.now member.now) }
     ensures err { OnErr result (GainsPrefix (member_text group.now member.now) out.old.items out.new.items) }
@@ -86,7 +86,7 @@ fn put_member(group: &[u8], member: &(u32, Bytes), out: &mut Vec<u8>) -> Result<
     }
 }
 
-// Appends the lines of a group with its members; where memory runs out, a prefix of them.
+// Appends the lines of a group with its members; out of memory, a prefix of them.
 fn put_lines(group: &[u8], members: &[(u32, Bytes)], out: &mut Vec<u8>) -> Result<(), AllocError>
     ensures ok { OnOk result (out.new.items ≡ out.old.items ++ topk_text group.now members.now) }
     ensures err { OnErr result (GainsPrefix (topk_text group.now members.now) out.old.items out.new.items) }
@@ -107,7 +107,7 @@ fn is_same(a: &(u32, Bytes), b: &(u32, Bytes)) -> bool
     a.0 == b.0 && a.1.bytes() == b.1.bytes()
 }
 
-// Appends what a member is encoded as; where memory runs out, a prefix of it.
+// Appends the encoding of a member; out of memory, a prefix of it.
 fn put_encoded(member: &(u32, Bytes), out: &mut Vec<u8>) -> Result<(), AllocError>
     ensures ok { OnOk result (out.new.items ≡ out.old.items ++ member_encoded member.now) }
     ensures err { OnErr result (GainsPrefix (member_encoded member.now) out.old.items out.new.items) }

@@ -1,4 +1,4 @@
--- Lists of documents where one ends.
+-- Lists of documents of which one has ended.
 use Rattle.std.proofs.Common.{◌≡◌, ℕ, ◌<◌, List, [], ◌∷◌, ◌++◌, length, refl, sym, ◌∙◌, arith, append-nil}
 use Rattle.jobs_basic.specs.Index.{union}
 use Rattle.jobs_basic.specs.IndexLaws.{none_right}

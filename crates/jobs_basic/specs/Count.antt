@@ -1,4 +1,4 @@
--- The job `count`: how often each word stands.
+-- The job `count`: how often each word occurs.
 use Rattle.std.specs.Prelude.{◌≡◌, ◌≤◌, ℕ, ◌+◌, ◌-◌, ◌^◌, min, List, map, decimal}
 use Rattle.std.proofs.Common.{arith}
 use Rattle.definitions.specs.Records.{words_of}
@@ -7,7 +7,7 @@ use Rattle.job_laws.specs.Encoding.{be64}
 use Rattle.jobs_basic.specs.Lines.{line_of}
 use Rattle.jobs_basic.specs.Words.{good_words}
 
--- A word stands once.
+-- A word occurs once.
 abbrev pub once : List ℕ → List ℕ × ℕ
 once word = (word, 1)
 

@@ -1,4 +1,4 @@
--- The job `index`: in which documents each word stands.
+-- The job `index`: in which documents each word occurs.
 use Rattle.std.specs.Prelude.{◌≤◌, ℕ, cond, suc, nat_lt, List, [], ◌∷◌, ◌++◌, map, decimal, Option, Some, None}
 use Rattle.std.specs.List.{flat_map}
 use Rattle.definitions.specs.Records.{words_of}
@@ -11,7 +11,7 @@ use Rattle.jobs_basic.specs.Lines.{line_of}
 abbrev pub in_document : ℕ → List ℕ → List ℕ × List ℕ
 in_document doc word = (word, doc ∷ [])
 
--- Each word of the text, where there is a TAB.
+-- Each word of the text, if there is a TAB.
 abbrev pub text_pairs : Option (List ℕ × List ℕ) → List (List ℕ × List ℕ)
 text_pairs None = []
 text_pairs (Some p) = map (in_document (digits_value p.0)) (words_of p.1)
@@ -20,7 +20,7 @@ text_pairs (Some p) = map (in_document (digits_value p.0)) (words_of p.1)
 abbrev pub index_emits : List ℕ → List (List ℕ × List ℕ)
 index_emits r = text_pairs (split_at_tab r)
 
--- A document and the union of the rest after it with the others: each in its place, and once where both have it.
+-- A document and the union of the rest after it with the others: each at its place, and once if both have it.
 abbrev pub union_into : ℕ → (List ℕ → List ℕ) → List ℕ → List ℕ
 union_into d rest [] = d ∷ rest []
 union_into d rest (e ∷ es) = cond (nat_lt d e) (d ∷ rest (e ∷ es)) (cond (nat_lt e d) (e ∷ union_into d rest es) (d ∷ rest es))

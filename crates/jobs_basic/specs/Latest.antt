@@ -5,7 +5,7 @@ use Rattle.definitions.specs.Tables.{HasGoodValues, IsGoodJoin}
 use Rattle.job_laws.specs.Forms.{split_at_tab}
 use Rattle.jobs_basic.specs.Lines.{line_of}
 
--- Both fields as one pair, where there is a TAB.
+-- Both fields as one pair, if there is a TAB.
 abbrev pub field_pair : Option (List ℕ × List ℕ) → List (List ℕ × List ℕ)
 field_pair None = []
 field_pair (Some p) = (p.0, p.1) ∷ []
@@ -14,7 +14,7 @@ field_pair (Some p) = (p.0, p.1) ∷ []
 abbrev pub latest_emits : List ℕ → List (List ℕ × List ℕ)
 latest_emits r = field_pair (split_at_tab r)
 
--- The right one.
+-- The right value.
 abbrev pub latest_joined : List ℕ → List ℕ → List ℕ
 latest_joined a b = b
 

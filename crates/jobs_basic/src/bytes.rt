@@ -6,7 +6,7 @@ use std::alloc::{AllocError, Global};
 use std::marker::Model;
 use std::sync::ArcSlice;
 
-/// Up to 65,535 bytes, or none. They are shared and never change.
+/// At most 65,535 bytes, possibly none. They are shared and never change.
 #[derive(Drop)]
 pub struct Bytes {
     bytes: ArcSlice<u8>,
@@ -42,7 +42,7 @@ impl Bytes {
         self.bytes.as_slice()
     }
 
-    /// The same bytes once more. None is copied; it fails only where the count of their owners is full.
+    /// Another owner of the same bytes. None is copied; it fails only if the count of owners is full.
     pub fn share(&self) -> Result<Bytes, AllocError>
         ensures { IfOk result (λ b. b ≡ self.now) }
     {

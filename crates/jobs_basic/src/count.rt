@@ -1,4 +1,4 @@
-//! The job that counts words: how often each stands, whatever the record.
+//! The job that counts words. It accepts every record.
 ghost use Rattle.std.specs.Prelude.{◌≡◌, ◌≤◌, ◌++◌, length, OnOk, OnErr};
 ghost use Rattle.definitions.specs.Limits.{most_record};
 ghost use Rattle.job_laws.specs.Forms.{is_count_record};
@@ -13,8 +13,8 @@ use job_laws::{Emit, Job, Key, Meter, Swaps, be64_bytes};
 use std::alloc::{AllocError, Global};
 use std::marker::PhantomData;
 
-/// How often each word stands. A word is a longest run of the bytes `A` to `Z`, `a` to `z` and `0` to `9`; case is kept.
-/// A count stays at 2^64 - 1. The setting is 0.
+/// How often each word occurs. A word is a longest run of the bytes `A` to `Z`, `a` to `z` and `0` to `9`; case is
+/// kept. A count stays at 2^64 - 1. The setting is 0. Mapping is one pass over the record; joining takes constant time.
 #[derive(Drop)]
 pub struct Count<M: Meter> {
     meter: PhantomData<M>,
@@ -27,7 +27,7 @@ impl<M: Meter> Count<M> {
     }
 }
 
-// Appends each word of the record in order, with 1; where memory runs out, a prefix of them.
+// Appends each word of the record in order, with 1; out of memory, a prefix of them.
 #[tactic(auto, using(job_laws::proofs::Gains::emitted_start, job_laws::proofs::Gains::emitted_more, job_laws::proofs::Gains::emitted_prefix, job_laws::proofs::Gains::emitted_end))]
 fn emit_words(r: &[u8], out: &mut Emit<u64>) -> Result<(), AllocError>
     requires { length r.now ≤ most_record }

@@ -5,7 +5,7 @@ ghost use Rattle.jobs_basic.specs.Index.{union};
 use std::alloc::{AllocError, Global};
 use std::marker::Model;
 
-/// The numbers of documents.
+/// A list of documents by their numbers, strictly rising.
 #[derive(Drop)]
 pub struct Docs {
     docs: Vec<u32>,
@@ -20,7 +20,7 @@ impl Model for Docs {
 }
 
 impl Docs {
-    /// One document alone.
+    /// The list of one document.
     pub fn of(alloc: Global, doc: u32) -> Result<Docs, AllocError>
         ensures { IfOk result (λ docs. docs ≡ doc ∷ []) }
     {
@@ -45,7 +45,7 @@ impl Docs {
     }
 
     /// The union of both. It is one pass over each list: room for all is taken first, so each document is copied once,
-    /// and what is left of one list behind the other's end is copied at once.
+    /// and the rest of one list after the other's end is copied in one go.
     #[tactic(auto, using(crate::proofs::Documents::union_left, crate::proofs::Documents::union_right))]
     pub fn union(&self, alloc: Global, other: &Docs) -> Result<Docs, AllocError>
         ensures { IfOk result (λ docs. docs ≡ union self.now other.now) }

@@ -17,8 +17,9 @@ use record_text::parse_number;
 use std::alloc::{AllocError, Global};
 use std::marker::PhantomData;
 
-/// In which documents each word stands. A record is the document's number, a TAB and its text, which is the rest; words
-/// are those of [`crate::Count`]. A list of documents strictly rises, and joining is the union. The setting is 0.
+/// In which documents each word occurs. A record is the document's number, a TAB and its text, which is the rest; words
+/// are those of [`crate::Count`]. A list of documents strictly rises, and joining is the union, which is one pass over
+/// both lists. The setting is 0.
 #[derive(Drop)]
 pub struct Index<M: Meter> {
     meter: PhantomData<M>,
@@ -31,7 +32,7 @@ impl<M: Meter> Index<M> {
     }
 }
 
-// Appends each word of the text in order, with the document alone; where memory runs out, a prefix of them.
+// Appends each word of the text in order, with the list of this document; out of memory, a prefix of them.
 #[tactic(auto, using(job_laws::proofs::Gains::emitted_start, job_laws::proofs::Gains::emitted_more, job_laws::proofs::Gains::emitted_prefix, job_laws::proofs::Gains::emitted_end))]
 fn index_words(alloc: Global, doc: u32, text: &[u8], out: &mut Emit<Docs>) -> Result<(), AllocError>
     requires { length text.now ≤ most_record }
@@ -53,7 +54,7 @@ fn index_words(alloc: Global, doc: u32, text: &[u8], out: &mut Emit<Docs>) -> Re
     Ok(())
 }
 
-// Appends a comma and the number; where memory runs out, a prefix of them.
+// Appends a comma and the number; out of memory, a prefix of them.
 fn put_next(doc: u32, out: &mut Vec<u8>) -> Result<(), AllocError>
     ensures ok { OnOk result (out.new.items ≡ out.old.items ++ after_comma doc) }
     ensures err { OnErr result (GainsPrefix (after_comma doc) out.old.items out.new.items) }
@@ -63,7 +64,7 @@ fn put_next(doc: u32, out: &mut Vec<u8>) -> Result<(), AllocError>
     out.extend_from_slice(number.format(doc).as_bytes())
 }
 
-// Appends each number behind a comma; where memory runs out, a prefix of them.
+// Appends each number after a comma; out of memory, a prefix of them.
 fn put_behind(docs: &[u32], out: &mut Vec<u8>) -> Result<(), AllocError>
     ensures ok { OnOk result (out.new.items ≡ out.old.items ++ behind_commas docs.now) }
     ensures err { OnErr result (GainsPrefix (behind_commas docs.now) out.old.items out.new.items) }
@@ -77,7 +78,7 @@ fn put_behind(docs: &[u32], out: &mut Vec<u8>) -> Result<(), AllocError>
     Ok(())
 }
 
-// Appends the numbers with commas between them; where memory runs out, a prefix of them.
+// Appends the numbers with commas between them; out of memory, a prefix of them.
 fn put_docs(docs: &[u32], out: &mut Vec<u8>) -> Result<(), AllocError>
     ensures ok { OnOk result (out.new.items ≡ out.old.items ++ with_commas docs.now) }
     ensures err { OnErr result (GainsPrefix (with_commas docs.now) out.old.items out.new.items) }
@@ -95,7 +96,7 @@ fn put_docs(docs: &[u32], out: &mut Vec<u8>) -> Result<(), AllocError>
     }
 }
 
-// Appends the line of a word with its documents; where memory runs out, a prefix of it.
+// Appends the line of a word with its documents; out of memory, a prefix of it.
 fn put_line(word: &[u8], docs: &[u32], out: &mut Vec<u8>) -> Result<(), AllocError>
     ensures ok { OnOk result (out.new.items ≡ out.old.items ++ index_text word.now docs.now) }
     ensures err { OnErr result (GainsPrefix (index_text word.now docs.now) out.old.items out.new.items) }

@@ -1,4 +1,4 @@
-//! The job that keeps the value which came last for each key.
+//! The job that keeps the last value of each key.
 ghost use Rattle.job_laws.specs.Forms.{is_latest_record};
 ghost use Rattle.jobs_basic.specs.Latest.{latest_emits, latest_joined, latest_good, latest_text, latest_encoded, latest_emits_good, latest_join_laws};
 
@@ -9,8 +9,9 @@ use job_laws::{Emit, Job, Key, Meter, tab_at};
 use std::alloc::{AllocError, Global};
 use std::marker::PhantomData;
 
-/// The value that came last for each key. A record is the key, a TAB and the value; the key is not empty, and the value
-/// is the rest, TABs included. It has no order of its own, so it is no job of [`job_laws::Swaps`]. The setting is 0.
+/// The last value of each key. A record is the key, a TAB and the value; the key is not empty, and the value is the
+/// rest, TABs included. Joining keeps the right value, so it is not commutative and the job has no [`job_laws::Swaps`].
+/// The setting is 0.
 #[derive(Drop)]
 pub struct Latest<M: Meter> {
     meter: PhantomData<M>,

@@ -1,6 +1,7 @@
-//! The jobs whose values are plain: [`Count`], how often each word stands, [`Index`], in which documents it stands, and
-//! [`Latest`], the value that came last for each key. Each job's meanings are definitions in `specs/`, and its laws are
-//! proved there for every value. Mapping a record is one pass over its bytes, and joining two values is one pass at most.
+//! The jobs with plain values: [`Count`], how often each word occurs, [`Index`], in which documents it occurs, and
+//! [`Latest`], the last value of each key. Each job's meanings are definitions in `specs/`, and its laws are proved
+//! there for every value. Mapping a record is one pass over its bytes, and joining two values is at most one pass over
+//! both.
 #![tactic(auto)]
 
 mod bytes;

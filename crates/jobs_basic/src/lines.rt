@@ -5,7 +5,7 @@ ghost use Rattle.jobs_basic.specs.Lines.{line_of};
 
 use std::alloc::AllocError;
 
-/// Appends the line of a key with what is written of its value; where memory runs out, a prefix of it.
+/// Appends the line of a key with what is written of its value; out of memory, a prefix of it.
 pub fn put_line(key: &[u8], field: &[u8], out: &mut Vec<u8>) -> Result<(), AllocError>
     ensures ok { OnOk result (out.new.items ≡ out.old.items ++ line_of key.now field.now) }
     ensures err { OnErr result (GainsPrefix (line_of key.now field.now) out.old.items out.new.items) }

@@ -6,7 +6,7 @@ use job_laws::{CountMeter, Counts, Emit, Job, Key, Meter, Swaps, merging_commute
 use std::alloc::{AllocError, Global};
 use std::test::Fail;
 
-// The pairs of a record as text, or none where the job does not accept it.
+// The pairs of a record as text; `None` if the job does not accept it.
 fn pairs<J: Job<Val = u64>>(
     alloc: Global,
     job: &J,

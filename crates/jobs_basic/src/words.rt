@@ -3,14 +3,14 @@ ghost use Rattle.std.specs.Prelude.{◌≡◌, ◌≤◌, ◌++◌, ℕ, List, l
 ghost use Rattle.definitions.specs.Records.{is_word_byte, word_before, words_behind, words_of};
 ghost use Rattle.jobs_basic.specs.Words.{SplitsWord};
 
-/// Whether the byte belongs to a word.
+/// Whether the byte is part of a word.
 fn is_in_word(b: u8) -> bool
     ensures { result ≡ is_word_byte b }
 {
     b.is_ascii_alphanumeric()
 }
 
-// How many bytes of a text go on with a word that stands before it.
+// How many bytes at the start of a text are part of a word.
 fn word_length(text: &[u8]) -> usize
     ensures fits { result ≤ length text.now }
     ensures word { (prefix : List ℕ) → words_behind prefix text.now ≡ word_before (prefix ++ take result text.now) (words_of (drop result text.now)) }
@@ -23,8 +23,7 @@ fn word_length(text: &[u8]) -> usize
     text.len()
 }
 
-/// The first word of a text, and what stands behind it; none where the text has no word. It is one pass up to the
-/// word's end.
+/// The first word of a text and what follows it; `None` if the text has no word. It is one pass up to the word's end.
 pub fn next_word(text: &[u8]) -> Option<(&[u8], &[u8])>
     ensures { SplitsWord text.now result }
 {

@@ -1,4 +1,4 @@
--- How the pins of a lane stay backed, and what is held then.
+-- How the pins of a lane stay backed, and what the caller then holds.
 use Rattle.std.proofs.Common.{◌≡◌, ℕ, zero, suc, ◌+◌, ◌<◌, ◌≤◌, ◌⊎◌, inl, inr, ⊎_elim, nat_lt, Bool, true, false, cond, ◌&&◌, ◌||◌, ◌==◌, List, [], ◌∷◌, ◌++◌, length, refl, sym, ap, subst, ◌∙◌, arith, append-nil, slice_get, Some}
 use Rattle.std.specs.List.{list_any, All, IsAmong}
 use Rattle.std.specs.List.Sorted.{IsPermutation}
@@ -42,7 +42,7 @@ backed-changed v es fs rest e f ps same before after back b =
 
 -- One text's notes made final.
 
--- Its pins stay, where the text stays.
+-- Its pins stay, if the text stays.
 pub pins-kept : (c : CallerView) (es fs rest : List TextView) (e f : TextView) → f.pins ≡ e.pins → IsPermutation es (e ∷ rest) → IsPermutation fs (f ∷ rest) → IsPermutation (f ∷ rest) fs → Covered c (pins_in es) → Balanced c (pins_in es) c (pins_in fs) × Covered c (pins_in fs)
 pins-kept c es fs rest e f still before after back covered =
     let one : (s id : ℕ) → count s id (pins_in (e ∷ rest)) ≡ count s id (pins_in (f ∷ rest)) = (λ s id. ap (λ (ps : List PinName). count s id (ps ++ pins_in rest)) (sym still)) in
@@ -50,7 +50,7 @@ pins-kept c es fs rest e f still before after back covered =
     let given : AreGiven c (pins_in fs) = given-moved c (f ∷ rest) fs back (subst (λ (ps : List PinName). AreGiven c (ps ++ pins_in rest)) (sym still) (given-moved c es (e ∷ rest) before covered.given)) in
     (balanced-order c c (pins_in es) (pins_in es) (pins_in fs) same (balanced-same c (pins_in es)), covered-order c (pins_in es) (pins_in fs) same given covered)
 
--- And where it goes, its pins are given up, or it had none.
+-- If it is removed, its pins are given up, or it had none.
 module _ (v w : CallerView) (es fs : List TextView) (e : TextView) (before : IsPermutation es (e ∷ fs)) (covered : Covered v (pins_in es)) where
   pub apart : Covered v (e.pins ++ pins_in fs)
   apart = covered-order v (pins_in es) (e.pins ++ pins_in fs) (λ s id. count-moved s id es (e ∷ fs) before) (given-moved v es (e ∷ fs) before covered.given) covered
@@ -78,7 +78,7 @@ module _ (u v : CallerView) (ps qs ss : List PinName) (backed : Backed u (ps ++ 
 pub backed-start : (c : CallerView) → ((s : ℕ) → (known_at s c).mine ≡ []) → Backed c []
 backed-start c unused = backed-none c (λ s id. ap (held c.number id) (unused s))
 
--- What a caller holds falls by its releases alone.
+-- What a caller holds decreases only by its releases.
 
 pub many-events : (test : Event → Bool) (xs ys : List Event) → how_many test (xs ++ ys) ≡ how_many test xs + how_many test ys
 many-events test [] ys = omega arith
@@ -220,7 +220,7 @@ holds-once c es fits backed sound = record {
   owned = λ s shown id some. owner c s id es sound.fits backed.covered.given (let a = backed.exact s shown id in omega (arith, a, some));
 }
 
--- A pin that was got, of which some became a text's and some were left.
+-- New pins, of which some became a text's and some were left.
 pub backed-brought : (v w : CallerView) (ps left : List PinName) (old new : List TextView) (ss : List PinName) → Got v ps w → AreGiven w ps → SplitsPins ps left old new → Backed v (pins_in old ++ ss) → Backed w (pins_in new ++ (ss ++ left))
 backed-brought v w ps left old new ss got given splits b =
     let all : Backed w ((pins_in old ++ ss) ++ (splits.own ++ left)) = subst (λ (qs : List PinName). Backed w ((pins_in old ++ ss) ++ qs)) (sym splits.split) (backed-got v w (pins_in old ++ ss) ps b got given) in
@@ -240,7 +240,7 @@ backed-brought v w ps left old new ss got given splits b =
     (given-append w ss left (given-right w (pins_in old) ss was) (given-right w splits.own left here))) all in
     subst (λ (qs : List PinName). Backed w (qs ++ (ss ++ left))) (sym splits.texts) ended
 
--- A pin that was got and left whole.
+-- New pins that were all left.
 pub backed-left : (v w : CallerView) (ps left : List PinName) (es : List TextView) (ss : List PinName) → Got v ps w → AreGiven w ps → left ≡ ps → Backed v (pins_in es ++ ss) → Backed w (pins_in es ++ (ss ++ left))
 backed-left v w ps left es ss got given same b = backed-brought v w ps left es es ss got given (record { own = []; split = same; texts = sym (append-nil (pins_in es)) }) b
 
@@ -257,7 +257,7 @@ at-last : (xs ys : List CallerView) (c : CallerView) → slice_get ((xs ++ c ∷
 at-last [] ys c = refl
 at-last (x ∷ xs) ys c = at-last xs ys c
 
--- A caller of a new memo, behind and before others.
+-- A caller of a new memo, between others.
 pub newcomer-among : (locks : List TableId) (cs xs ys : List CallerView) (c : CallerView) → AreNewcomers locks cs → cs ≡ (xs ++ c ∷ []) ++ ys → (c.locks ≡ locks) × ((s : ℕ) → (known_at s c).mine ≡ [])
 newcomer-among locks cs xs ys c fresh is =
     let at : slice_get cs (length xs) ≡ Some c = ap (λ (ds : List CallerView). slice_get ds (length xs)) is ∙ at-last xs ys c in

@@ -30,7 +30,7 @@ rest-kept Revert es fs rest e fits before after = λ t.
     let d = total-front t (λ x. x.used) fs rest (finished Revert e) after in
     omega (arith, a, d)
 
--- A text goes, since no leaf uses it in the end.
+-- A text is removed, since no leaf uses it any more.
 rest-taken : (how : Finish) (es fs : List TextView) (e : TextView) → TextFits e → rest_of how e ≡ 0 → IsPermutation es (e ∷ fs) → KeepsRest how es fs
 rest-taken Settle es fs e fits none before = λ t.
     let a = total-front t (λ x. x.used) es fs e before in
@@ -78,7 +78,7 @@ pins-kept how es fs rest e before after = record {
     less Revert true = omega arith
     less Revert false = omega arith
 
--- A text that goes is held no more, and the others have their pins.
+-- A removed text is no longer held, and the others have their pins.
 pins-taken : (es fs : List TextView) (e : TextView) → IsPermutation es (e ∷ fs) → ((t : List (List ℕ)) → total_of t (λ _. 1) es ≤ 1) → KeepsPins es fs
 pins-taken es fs e before once = record {
   held = λ t h.
@@ -111,7 +111,7 @@ pins-then es fs gs a b = record {
 pub pins-same : (es : List TextView) → KeepsPins es es
 pins-same es = record { held = λ t h. h; pins = λ t h s id. refl }
 
--- Whether it stays or goes.
+-- Both cases: it stays, or it is removed.
 pub finishes-one : (how : Finish) (old new : TableView) (gone : Option TextView) → FinishesNext how old new gone → FinishesOne how old new
 finishes-one how old new None f =
     let e = f.0 in

@@ -1,4 +1,4 @@
--- What one call of the memo after another comes to for a text that is brought.
+-- What calls of the memo, one after another, mean for a text that is brought.
 use Rattle.std.proofs.Common.{◌≡◌, ℕ, inl, inr, ⊎_elim, Bool, true, false, ◌||◌, List, [], ◌∷◌, ◌++◌, refl, ap, subst, ◌∙◌}
 use Rattle.std.specs.List.{list_any, All}
 use Rattle.std.proofs.lemmas.List.Elements.{All-nil, All-cons}
@@ -49,7 +49,7 @@ module _ (digest : List ℕ) (run id : ℕ) (v w : CallerView) where
   pub keep-clashes : AtShard (Gained v.number (Keep v.number run digest (KeepClashAnswer id))) (there digest v) v w → KeptOrClashed digest v w
   keep-clashes at = inr (inl (ap (list_any (clashes digest)) (gain-one v.number (there digest v) (Keep v.number run digest (KeepClashAnswer id)) v w at) ∙ rw (nat_list_eq_equiv.refl digest) refl))
 
--- What a later call came to, after events that give no pin up.
+-- What a later call did, after events that give up no pin.
 pub kept-before : (digest : List ℕ) (es : List Event) (v w x : CallerView) → Quiet digest es v w → ((id : ℕ) → list_any (frees id) es ≡ false) → IsLater w x → KeptOrClashed digest w x → KeptOrClashed digest v x
 kept-before digest es v w x quiet free later kept =
     let is : gained digest v x ≡ es ++ gained digest w x = gained-then digest v w x quiet.got.later later ∙ ap (λ (gs : List Event). gs ++ gained digest w x) quiet.gain in
@@ -67,7 +67,7 @@ kept-before digest es v w x quiet free later kept =
     both_false : (a b : Bool) → a ≡ false → b ≡ false → (a || b) ≡ false
     both_false a b p q = rw p q
 
--- What a call comes to for the pins that it gave on an input.
+-- What a call means for the pins that it gave on an input.
 abbrev pub BroughtBy : InputView → List PinName → CallerView → CallerView → Type 0
 BroughtBy input pins v w = All (λ p. p.digest ≡ digest_of_input input) pins × Got v pins w × AreGiven w pins × KeptOrClashed (digest_of_input input) v w
 

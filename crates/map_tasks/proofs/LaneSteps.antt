@@ -13,7 +13,7 @@ use Rattle.map_tasks.proofs.Backing.{backed-changed, finished-pins, released-all
 use Rattle.map_tasks.specs.Lanes.{LaneView, ReleasesAll, HoldsOnce}
 use Rattle.map_tasks.specs.Texts.{AreSound}
 
--- The input of a text that was found is the one that was looked for, where all are mapped as it is.
+-- The input of a text that was found is the one that was looked for, if all are mapped in the same way.
 pub found-input : (input : InputView) (rows : List ((List ℕ × ℕ) × TextView)) (place : ℕ) (at : IsAt input.text rows place) → All (IsMappedSo input.parts input.setting) (texts_in rows) → at.row.1.input ≡ input
 found-input input rows place at mapped =
     let one = one-of-all (IsMappedSo input.parts input.setting) rows place at.row mapped at.at in

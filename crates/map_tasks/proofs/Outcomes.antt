@@ -1,4 +1,4 @@
--- What holds where a call succeeds, and where it fails.
+-- What holds if a call succeeds, and if it fails.
 use Rattle.std.proofs.Common.{Result, Ok, Err, OnOk, OnErr}
 
 pub ok-const : {T E : Type 0} (r : Result T E) (A : Type 0) → A → OnOk r A

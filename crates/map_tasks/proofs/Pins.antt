@@ -43,6 +43,6 @@ in-given c (e ∷ es) h = All-cons (λ (x : TextView). AreGiven c x.pins) e es (
 pub given-moved : (c : CallerView) (es fs : List TextView) → IsPermutation es fs → AreGiven c (pins_in es) → AreGiven c (pins_in fs)
 given-moved c es fs moved h = given-in c fs (All-permutation (λ (e : TextView). AreGiven c e.pins) es fs moved (in-given c es h))
 
--- A text that came first, with its own pins beside those that were left.
+-- A text that is added at the front, with its own pins in addition to those that were left.
 pub pins-brought : (es fs : List TextView) (e : TextView) → fs ≡ es ++ e ∷ [] → pins_in fs ≡ pins_in es ++ e.pins
 pins-brought es fs e is = ap pins_in is ∙ (flat_map-append (λ (x : TextView). x.pins) es (e ∷ []) ∙ ap (λ (ps : List PinName). pins_in es ++ ps) (append-nil e.pins))

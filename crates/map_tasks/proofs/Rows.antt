@@ -1,4 +1,4 @@
--- How rows move and change, and what the table of texts keeps then.
+-- How rows move and change, and what the table of texts keeps.
 use Rattle.std.proofs.Common.{◌≡◌, ◌≢◌, ℕ, zero, suc, ◌+◌, ◌-◌, ◌^◌, ◌<◌, ◌≤◌, List, [], ◌∷◌, ◌++◌, length, take, min, Bool, true, false, ◌==◌, ◌&&◌, nat_eq, nat_lt, Option, Some, None, is_some, slice_get, cond, refl, sym, ap, subst, ◌∙◌, arith}
 use lib.ListN.{get_or, set}
 use Rattle.std.specs.List.{All, remove, swap, swap_remove}
@@ -66,7 +66,7 @@ module _ {X : Type 0} where
   take-taken (x ∷ xs) (suc i) zero y h = absurd (omega arith)
   take-taken (x ∷ xs) (suc i) (suc n) y h = ap (λ (l : List X). x ∷ l) (take-taken xs i n y (omega arith))
 
-  -- Elements of the front, of which one was exchanged with the last of them.
+  -- The first elements, of which one was exchanged with the last of them.
   front-swapped : (P : X → Type 0) (xs : List X) (a b : ℕ) → a ≤ b → b < length xs → All P (take (b + 1) xs) → All P (take b (swap xs a b))
   front-swapped P xs a b below inside all = (λ k d h.
       let n : k < b = (let l = length-take b (swap xs a b) in omega (arith, l, h)) in
@@ -137,7 +137,7 @@ pub sound-changed : (es fs rest : List TextView) (e f : TextView) → f.input �
 sound-changed es fs rest e f same pins fits before after s =
     sound-moved (f ∷ rest) fs (IsPermutation-sym fs (f ∷ rest) after) (sound-head e f rest same pins fits (sound-moved es (e ∷ rest) before s))
 
--- One text goes.
+-- One text is removed.
 pub sound-less : (es fs : List TextView) (e : TextView) → IsPermutation es (e ∷ fs) → AreSound es → AreSound fs
 sound-less es fs e before s = sound-tail e fs (sound-moved es (e ∷ fs) before s)
 
@@ -169,7 +169,7 @@ module _ (calm next : ℕ) (rows : List Row) (table : IsTable calm next rows) wh
       let was = (text-at i k e at).0 in
       subst (All (IsKeyed next)) (sym (written-is rows i k e w at)) (All-set (IsKeyed next) rows i (k, w) (was.0 ∙ ap digest_of_input (sym same), was.1, λ h. pins ∙ was.2 h) table.keyed)
 
-  -- A text behind the calm ones changes its numbers.
+  -- A text after the calm ones changes its numbers.
   pub table-changed : (i : ℕ) (k : List ℕ × ℕ) (e w : TextView) → slice_get rows i ≡ Some (k, e) → calm ≤ i → w.input ≡ e.input → w.pins ≡ e.pins → TextFits w → IsTable calm next (set_value_at rows i w)
   table-changed i k e w at behind same pins fits = record {
     within = subst (λ (n : ℕ). calm ≤ n) (sym (length-set_value_at rows i w)) table.within;
@@ -180,7 +180,7 @@ module _ (calm next : ℕ) (rows : List Row) (table : IsTable calm next rows) wh
     sound = sound-changed (texts_in rows) (texts_in (set_value_at rows i w)) (texts_in (remove rows i)) e w same pins fits (front-texts i k e at) (written-texts i k e w at) table.sound;
   }
 
-  -- The first that is not calm becomes calm.
+  -- The first text that is not calm becomes calm.
   pub table-finished : (k : List ℕ × ℕ) (e w : TextView) → slice_get rows calm ≡ Some (k, e) → w.input ≡ e.input → w.pins ≡ e.pins → TextFits w → IsQuiet w → IsTable (calm + 1) next (set_value_at rows calm w)
   table-finished k e w at same pins fits quiet =
       let inside = slice_get_within rows calm (k, e) at in
@@ -198,7 +198,7 @@ module _ (calm next : ℕ) (rows : List Row) (table : IsTable calm next rows) wh
         sound = sound-changed (texts_in rows) (texts_in (set_value_at rows calm w)) (texts_in (remove rows calm)) e w same pins fits (front-texts calm k e at) (written-texts calm k e w at) table.sound;
       }
 
-  -- The first that is not calm goes.
+  -- The first text that is not calm is removed.
   pub table-taken : (k : List ℕ × ℕ) (e : TextView) → slice_get rows calm ≡ Some (k, e) → IsTable calm next (swap_remove rows calm (k, e))
   table-taken k e at =
       let inside = slice_get_within rows calm (k, e) at in
@@ -212,7 +212,7 @@ module _ (calm next : ℕ) (rows : List Row) (table : IsTable calm next rows) wh
         sound = sound-less (texts_in rows) (texts_in (swap_remove rows calm (k, e))) e (IsPermutation-map (λ (r : Row). r.1) rows ((k, e) ∷ swap_remove rows calm (k, e)) moved) table.sound;
       }
 
-  -- A calm one is exchanged with the last calm one, which is not calm any more.
+  -- A calm text is exchanged with the last calm one, and is not calm any more.
   pub table-swapped : (place : ℕ) → place < calm → IsTable (calm - 1) next (swap rows place (calm - 1))
   table-swapped place below =
       let long = length-swap rows place (calm - 1) in
@@ -255,7 +255,7 @@ module _ (calm next : ℕ) (rows : List Row) (table : IsTable calm next rows) wh
         next = refl;
       }
 
--- Where all texts are calm, none has notes.
+-- If all texts are calm, none has notes.
 pub quiet-all : (calm : ℕ) (rows : List Row) → calm ≤ length rows → (calm < length rows → ⊥) → All (λ r. IsQuiet r.1) (take calm rows) → All IsQuiet (texts_in rows)
 quiet-all calm rows within none quiet =
     let whole : take calm rows ≡ rows = take-all calm rows (all_case within none) in
@@ -287,7 +287,7 @@ finished-fits how e fits some = record {
     how_case Settle = let a = fits.fits in omega (arith, a)
     how_case Revert = let a = fits.fits in omega (arith, a)
 
--- A leaf more of a text, and one that went.
+-- One more leaf of a text came, or left.
 pub came-fits : (e : TextView) → TextFits e → e.used + e.came < 2 ^ 64 - 1 → TextFits (with_came e)
 came-fits e fits room = record { went = fits.went; fits = omega (arith, room); some = omega arith; named = fits.named }
 
@@ -358,7 +358,7 @@ sound-more es e fits absent few s = record {
         let none : ◌≡◌ {A = ℕ} (cond (same_text t e.input.text) 1 0) 0 = ap (λ (b : Bool). cond {A = ℕ} b 1 0) is in
         omega (arith, a, b, none)
 
--- Where all keys have numbers below one, none has that one.
+-- If all keys have numbers below one, none has that one.
 pub next-free : (next : ℕ) (digest : List ℕ) (rows : List Row) → All (IsKeyed next) rows → lookup (is_key digest next) rows ≡ None
 next-free next digest [] keyed = refl
 next-free next digest (r ∷ rows) keyed =
@@ -387,7 +387,7 @@ module _ (calm next : ℕ) (rows : List Row) (table : IsTable calm next rows) wh
         sound = sound;
       }
 
-  -- The first one of its digest comes.
+  -- The first text of its digest is added.
   pub table-first : (digest : List ℕ) (input : InputView) (pins : List PinName) → digest ≡ digest_of_input input → lookup (is_key digest 0) rows ≡ None → All (λ r. r.1.input.text ≢ input.text) rows → All (λ p. p.digest ≡ digest_of_input input) pins → ((d : List ℕ) → how_many (λ p. bytes_eq d p.digest) pins ≤ 1)
       → IsTable calm next (rows ++ ((digest, 0), new_text input pins) ∷ [])
   table-first digest input pins is free absent named few =
@@ -419,7 +419,7 @@ module _ (calm next : ℕ) (rows : List Row) (table : IsTable calm next rows) wh
               let f = table.sound.pinned d in
               omega (arith, z, f)
 
-  -- Another one of its digest comes, without a pin.
+  -- Another text of its digest is added, without a pin.
   pub table-another : (digest : List ℕ) (input : InputView) → digest ≡ digest_of_input input → All (λ r. r.1.input.text ≢ input.text) rows → IsTable calm (next + 1) (rows ++ ((digest, next), new_text input []) ∷ [])
   table-another digest input is absent =
       let e = new_text input [] in
@@ -446,7 +446,7 @@ finds-at calm next rows table t i k e at is =
     let total : (f : TextView → ℕ) → total_of t f (texts_in rows) ≡ f e = (λ f. total-once t f (texts_in rows) (texts_in (remove rows i)) e (table.sound.once t) (front-texts calm next rows table i k e at) is) in
     record { row = (k, e); at = at; is = is; fits = (text-at calm next rows table i k e at).1; used = total (λ x. x.used); came = total (λ x. x.came); gone = total (λ x. x.gone) }
 
--- Where no two texts had one digest, a text whose digest is not there is not.
+-- If no two texts have had one digest, a text whose digest is not there is not there.
 pub absent-digest : (next : ℕ) (t : List (List ℕ)) (rows : List Row) → All (IsKeyed next) rows → next ≡ 1 → lookup (is_key (input_digest t) 0) rows ≡ None → All (λ r. r.1.input.text ≢ t) rows
 absent-digest next t [] keyed one none = All-nil (λ (r : Row). r.1.input.text ≢ t)
 absent-digest next t (r ∷ rows) keyed one none = key_case (is_key (input_digest t) 0 r.0) refl none (absent-digest next t rows (All-tail (IsKeyed next) r rows keyed) one)
@@ -483,7 +483,7 @@ some-row (x ∷ rows) (suc i) h = some-row rows i (omega arith)
 pub texts-push : (rows : List Row) (k : List ℕ × ℕ) (e : TextView) → texts_in (rows ++ (k, e) ∷ []) ≡ texts_in rows ++ e ∷ []
 texts-push rows k e = map-append (λ (r : Row). r.1) rows ((k, e) ∷ [])
 
--- A pin that may be there is one at most.
+-- An optional pin is at most one.
 pub few-pins : {O : Type 0} (pin : Option (PinView InputView O)) (d : List ℕ) → how_many (λ p. bytes_eq d p.digest) (maybe_pins pin) ≤ 1
 few-pins None d = omega arith
 few-pins (Some p) d = test_case (bytes_eq d (digest_of_input p.input))
@@ -492,6 +492,6 @@ few-pins (Some p) d = test_case (bytes_eq d (digest_of_input p.input))
     test_case true = omega arith
     test_case false = omega arith
 
--- A text at no row is none of the texts.
+-- A text that is at no row is none of the texts.
 pub absent-rows : (t : List (List ℕ)) (rows : List Row) → All (λ r. r.1.input.text ≢ t) rows → All (λ e. e.input.text ≢ t) (texts_in rows)
 absent-rows t rows h = All-map (λ (e : TextView). e.input.text ≢ t) (λ (r : Row). r.1) rows h

@@ -13,7 +13,7 @@ use Rattle.map_tasks.specs.Texts.{TextView, TextFits, IsQuiet, IsMappedSo, IsHel
 use Rattle.map_tasks.specs.Table.{FinishesAll}
 use Rattle.map_tasks.specs.declared.held.Finish.TheVariants.{Settle, Revert}
 
--- Texts are told apart.
+-- A text is equal to itself.
 
 pub same-itself : (t : List (List ℕ)) → same_text t t ≡ true
 same-itself t = (lists_equiv nat_list_eq_equiv).refl t
@@ -28,11 +28,11 @@ same-not t u apart = test_case (same_text t u) refl
     test_case true is = absurd (apart (same-is t u is))
     test_case false is = is
 
--- Of its own text a number counts whole.
+-- A number counts fully for its own text.
 pub own-text : (t : List (List ℕ)) (f : TextView → ℕ) (e : TextView) → e.input.text ≡ t → of_text t f e ≡ f e
 own-text t f e is = ap (λ (b : Bool). cond {A = ℕ} b (f e) 0) (ap (same_text t) is ∙ same-itself t)
 
--- Of another text it counts as nothing.
+-- It counts as nothing for another text.
 pub other-text : (t : List (List ℕ)) (f : TextView → ℕ) (e : TextView) → (e.input.text ≡ t → ⊥) → of_text t f e ≡ 0
 other-text t f e apart = ap (λ (b : Bool). cond {A = ℕ} b (f e) 0) (same-not t e.input.text (λ is. apart (sym is)))
 
@@ -40,7 +40,7 @@ other-text t f e apart = ap (λ (b : Bool). cond {A = ℕ} b (f e) 0) (same-not 
 pub total-moved : (t : List (List ℕ)) (f : TextView → ℕ) (es fs : List TextView) → IsPermutation es fs → total_of t f fs ≡ total_of t f es
 total-moved t f es fs moved = sum_by-IsPermutation (of_text t f) es fs moved
 
--- With one text in front.
+-- With one text more, in front.
 pub total-front : (t : List (List ℕ)) (f : TextView → ℕ) (es rest : List TextView) (e : TextView) → IsPermutation es (e ∷ rest) → total_of t f es ≡ of_text t f e + total_of t f rest
 total-front t f es rest e moved = sym (total-moved t f es (e ∷ rest) moved) ∙ sum_by-cons (of_text t f) e rest
 
@@ -59,7 +59,7 @@ absent-not-held t es absent held =
     let b = total-absent t (λ e. e.came) es absent in
     omega (arith, a, b, held)
 
--- Where a text is at no place by one count, it is by all.
+-- A text that is at no place has no total of any kind.
 pub total-none : (t : List (List ℕ)) (f : TextView → ℕ) (es : List TextView) → total_of t (λ _. 1) es ≡ 0 → total_of t f es ≡ 0
 total-none t f [] none = refl
 total-none t f (e ∷ es) none =
@@ -96,7 +96,7 @@ held-there t es rest e fits before is =
 -- A change of one text.
 
 module _ (t : List (List ℕ)) (how : TextView → TextView) (old new : List TextView) (changes : Changes t how old new) where
-  -- A number that grew with the text grew in the text's total alone.
+  -- A number that grew with the text grew only in the text's total.
   pub change-total : (f : TextView → ℕ) (more : ℕ) → f (how changes.text) ≡ f changes.text + more → (how changes.text).input ≡ changes.text.input → (u : List (List ℕ)) → total_of u f new ≡ total_of u f old + cond (same_text u t) more 0
   change-total f more grown same u =
       let a = total-front u f old changes.rest changes.text changes.before in

@@ -1,9 +1,9 @@
--- What a leaf is mapped from, its digest, and the lane that it belongs to.
+-- The input of a leaf, its digest, and the lane that it belongs to.
 use Rattle.std.specs.Prelude.{ℕ, ◌%◌, List, ◌∷◌, slice_index}
 use Rattle.sha2.specs.Sha256.{sha256}
 use Rattle.definitions.specs.Records.{text_of}
 
--- Records that a job set to a number maps into so many parts.
+-- Records, the number of parts into which they are mapped, and the number that the job is set to.
 pub record InputView : Type 0 where
   pub text : List (List ℕ)
   pub parts : ℕ

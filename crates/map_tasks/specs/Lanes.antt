@@ -14,7 +14,7 @@ use Rattle.pin_table.specs.Covers.{PinName, count, gave}
 use Rattle.pin_table.specs.OwnEvents.{there, gained, gain_at, is_miss}
 use Rattle.map_tasks.specs.Texts.{TextView, IsMappedSo, pins_in, digest_of_input}
 
--- A lane: its caller, the texts that it holds in no order, and pins that no text has, which are given up next.
+-- A lane: its caller, the texts that it holds, in any order, and pins that no text keeps, which are given up next.
 pub record LaneView : Type 0 where
   pub caller : CallerView
   pub texts : List TextView
@@ -24,7 +24,7 @@ pub record LaneView : Type 0 where
 abbrev pub pins_of : LaneView → List PinName
 pins_of v = pins_in v.texts ++ v.spare
 
--- Where all texts were mapped into so many parts at a setting, all texts are.
+-- If all texts were mapped into this number of parts at this setting, all texts still are.
 abbrev pub StayMappedSo : List TextView → List TextView → Type 0
 StayMappedSo old new = (parts setting : ℕ) → All (IsMappedSo parts setting) old → All (IsMappedSo parts setting) new
 
@@ -43,21 +43,21 @@ clashes digest (Sweep who horizon dropped) = false
 abbrev pub LookedFirst : List ℕ → CallerView → CallerView → Type 0
 LookedFirst digest old new = (list_any (is_miss digest) (gained digest old new) ≡ true) ⊎ IsWorn (there digest old) new
 
--- The caller's own events gained a pin on an entry with the digest and gave no pin on it up.
+-- The caller's own events gained a pin on an entry with the digest and gave up no pin on it.
 pub record Pinned (digest : List ℕ) (old new : CallerView) : Type 0 where
   pub id : ℕ
   pub got : list_any (gave id digest) (gained digest old new) ≡ true
   pub still : list_any (frees id) (gained digest old new) ≡ false
 
--- They did so, or gained a clash for the digest, or the lock of its shard was shown worn.
+-- They gained such a pin, or a clash for the digest, or the lock of its shard was shown worn.
 abbrev pub KeptOrClashed : List ℕ → CallerView → CallerView → Type 0
 KeptOrClashed digest old new = Pinned digest old new ⊎ ((list_any (clashes digest) (gained digest old new) ≡ true) ⊎ IsWorn (there digest old) new)
 
--- A pin less has its release among the caller's own events of its shard, or the shard's lock was shown worn.
+-- The release of a removed pin is among the caller's own events of its shard, or the shard's lock was shown worn.
 abbrev pub ReleasesAll : LaneView → LaneView → Type 0
 ReleasesAll old new = (s id : ℕ) → count s id (pins_of new) < count s id (pins_of old) → (list_any (frees id) (gain_at s old.caller new.caller) ≡ true) ⊎ IsWorn s new.caller
 
--- A text of these has the digest that an event of the caller's at the shard gave for the id.
+-- One of these texts has the digest that an event of the caller's at the shard gave for the id.
 pub record BelongsToText (s id : ℕ) (c : CallerView) (texts : List TextView) : Type 0 where
   pub text : TextView
   pub among : IsAmong texts text

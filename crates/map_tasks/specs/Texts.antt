@@ -11,7 +11,8 @@ use Rattle.map_tasks.specs.Inputs.{InputView, input_digest}
 use Rattle.map_tasks.specs.declared.held.Finish.{Finish}
 use Rattle.map_tasks.specs.declared.held.Finish.TheVariants.{Settle, Revert}
 
--- A text that a lane holds, with its input; how many leaves used it when the notes were last made final, and how many came and went since; and its pin, where it has one.
+-- A text that a lane holds, with its input; how many leaves used it when the notes were last made final, and how many
+-- came and left since; and its pin, if it has one.
 pub record TextView : Type 0 where
   pub input : InputView
   pub used : ℕ
@@ -28,7 +29,7 @@ abbrev pub maybe_pins : {O : Type 0} → Option (PinView InputView O) → List P
 maybe_pins None = []
 maybe_pins (Some p) = name_of digest_of_input p ∷ []
 
--- No more leaves went than were there, the numbers fit, some leaf uses or used the text, and its pin is one of its digest.
+-- No more leaves left than were there, the numbers fit, some leaf uses or used the text, and its pin has its digest.
 pub record TextFits (e : TextView) : Type 0 where
   pub went : e.gone ≤ e.used
   pub fits : e.used + e.came < 2 ^ 64
@@ -55,19 +56,19 @@ used_of t es = total_of t (λ e. e.used) es
 abbrev pub came_of : List (List ℕ) → List TextView → ℕ
 came_of t es = total_of t (λ e. e.came) es
 
--- How many leaves of the text went since.
+-- How many leaves of the text left since.
 abbrev pub gone_of : List (List ℕ) → List TextView → ℕ
 gone_of t es = total_of t (λ e. e.gone) es
 
--- The lane holds the text, also where its leaves have all gone since the notes were last made final.
+-- The lane holds the text, even if all its leaves have left since the notes were last made final.
 abbrev pub IsHeld : List (List ℕ) → List TextView → Type 0
 IsHeld t es = 0 < used_of t es + came_of t es
 
--- No leaf of the text came or went.
+-- No leaf of the text came or left.
 abbrev pub IsQuiet : TextView → Type 0
 IsQuiet e = (e.came ≡ 0) × (e.gone ≡ 0)
 
--- The text is mapped so.
+-- The text is mapped into this number of parts at this setting.
 abbrev pub IsMappedSo : ℕ → ℕ → TextView → Type 0
 IsMappedSo parts setting e = (e.input.parts ≡ parts) × (e.input.setting ≡ setting)
 
@@ -85,19 +86,20 @@ pub record Comes (t : List (List ℕ)) (old new : List TextView) : Type 0 where
   pub came : (u : List (List ℕ)) → came_of u new ≡ came_of u old + cond (same_text u t) 1 0
   pub gone : (u : List (List ℕ)) → gone_of u new ≡ gone_of u old
 
--- One more leaf of the text went, and no other number changed.
+-- One more leaf of the text left, and no other number changed.
 pub record Leaves (t : List (List ℕ)) (old new : List TextView) : Type 0 where
   pub used : (u : List (List ℕ)) → used_of u new ≡ used_of u old
   pub came : (u : List (List ℕ)) → came_of u new ≡ came_of u old
   pub gone : (u : List (List ℕ)) → gone_of u new ≡ gone_of u old + cond (same_text u t) 1 0
 
--- What came and what went is final: each text is used by those that were there and those that came, less those that went, and no text is held that no leaf uses.
+-- All notes are final: each text is used by the leaves that were there and came, less those that left, and no text is
+-- held that no leaf uses.
 pub record Settles (old new : List TextView) : Type 0 where
   pub used : (u : List (List ℕ)) → used_of u new + gone_of u old ≡ used_of u old + came_of u old
   pub quiet : All IsQuiet new
   pub some : All (λ e. 0 < e.used) new
 
--- What came and what went is undone: each text is used as when the notes were last made final, and no other text is held.
+-- All notes are undone: each text is used as when the notes were last made final, and no other text is held.
 pub record Reverts (old new : List TextView) : Type 0 where
   pub used : (u : List (List ℕ)) → used_of u new ≡ used_of u old
   pub quiet : All IsQuiet new
@@ -109,7 +111,7 @@ pub record AreSound (es : List TextView) : Type 0 where
   pub once : (t : List (List ℕ)) → total_of t (λ _. 1) es ≤ 1
   pub pinned : (d : List ℕ) → how_many (λ p. bytes_eq d p.digest) (pins_in es) ≤ 1
 
--- How many leaves use the text in the end.
+-- How many leaves use the text once its notes are final.
 abbrev pub rest_of : Finish → TextView → ℕ
 rest_of Settle e = (e.used + e.came) - e.gone
 rest_of Revert e = e.used
@@ -118,7 +120,7 @@ rest_of Revert e = e.used
 abbrev pub finished : Finish → TextView → TextView
 finished how e = record e { used = rest_of how e; came = 0; gone = 0 }
 
--- A text was there, and its numbers became these; all else stayed.
+-- A text was there, and its numbers became these; everything else stayed.
 pub record Changes (t : List (List ℕ)) (how : TextView → TextView) (old new : List TextView) : Type 0 where
   pub text : TextView
   pub rest : List TextView
@@ -130,15 +132,15 @@ pub record Changes (t : List (List ℕ)) (how : TextView → TextView) (old new 
 abbrev pub with_came : TextView → TextView
 with_came e = record e { came = e.came + 1 }
 
--- One more leaf went.
+-- One more leaf left.
 abbrev pub with_gone : TextView → TextView
 with_gone e = record e { gone = e.gone + 1 }
 
--- A text whose first leaf came now.
+-- A text whose first leaf has just come.
 abbrev pub new_text : InputView → List PinName → TextView
 new_text input pins = record { input = input; used = 0; came = 1; gone = 0; pins = pins }
 
--- The text of the input, whose first leaf came now, is there beside those that were.
+-- The text of the input, whose first leaf has just come, is there in addition to those before.
 pub record BringsText (input : InputView) (old new : List TextView) : Type 0 where
   pub pins : List PinName
   pub texts : new ≡ old ++ new_text input pins ∷ []

@@ -20,8 +20,7 @@ use pin_table::{Caller, Memo, Pin};
 use std::alloc::{AllocError, Global};
 use std::sync::Wait;
 
-/// A leaf of a text that is not there yet comes. A pin that was got and that no text has is spare, also where memory was
-/// wanting then.
+/// Brings a leaf of a text that the lane does not hold. A pin that no text keeps is spare, also if memory ran out.
 pub(crate) fn bring_new<J: Job, W: Wait>(
     alloc: Global,
     rt: &W,

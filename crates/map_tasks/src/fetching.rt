@@ -1,4 +1,4 @@
-//! How the leaf of a text that a lane does not hold is got: from the memo, or mapped and kept there.
+//! The leaf of a text that a lane does not hold: from the memo, or mapped and kept there.
 ghost use Rattle.std.specs.Prelude.{◌≡◌, ◌≤◌, ◌<◌, length, IfOk, OnOk, All};
 ghost use Rattle.definitions.specs.Answer.{pairs_of};
 ghost use Rattle.job_laws.specs.Counted.{RoseBy};
@@ -20,8 +20,8 @@ use sheets::{Sheet, map_sheets};
 use std::alloc::{AllocError, Global};
 use std::sync::Wait;
 
-/// The leaf of an input by the memo: with a new pin, or without one where an entry of another input has its digest or
-/// the shard's lock is worn. It maps the records where the memo has no entry of the input.
+/// The leaf of an input, through the memo: with a new pin, or without one if an entry of another input has its digest
+/// or the shard's lock is worn. It maps the records if the memo has no entry of the input. It may block.
 pub(crate) fn fetch<J: Job, W: Wait>(
     alloc: Global,
     rt: &W,
@@ -87,7 +87,7 @@ fn shared_leaf<J: Job>(
     Leaf::new(alloc, input, sheets)
 }
 
-// The leaf of an input, mapped.
+// Maps the leaf of an input.
 fn mapped_leaf<J: Job>(
     alloc: Global,
     job: &J,

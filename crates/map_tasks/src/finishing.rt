@@ -1,4 +1,4 @@
-//! How notes become final, and what no leaf uses any more is given up.
+//! How notes become final, and how texts that no leaf uses any more are given up.
 ghost use Rattle.std.specs.Prelude.{◌≡◌, ◌<◌, length};
 ghost use Rattle.pin_table.specs.Covers.{Covered, Balanced};
 ghost use Rattle.map_tasks.specs.Texts.{pins_in};
@@ -11,7 +11,7 @@ use job_laws::Job;
 use pin_table::{Caller, Memo};
 use std::sync::Wait;
 
-/// Makes all notes final. It takes no memory, and costs the texts with notes.
+/// Makes all notes final. It takes no memory, and walks only the texts with notes.
 pub(crate) fn finish_texts<J: Job, W: Wait>(
     rt: &W,
     memo: &Memo<MapRecipe<J>>,
@@ -30,7 +30,7 @@ pub(crate) fn finish_texts<J: Job, W: Wait>(
     }
 }
 
-// Makes those of one text final.
+// Makes the notes of one text final.
 fn finish_one<J: Job, W: Wait>(
     rt: &W,
     memo: &Memo<MapRecipe<J>>,

@@ -12,16 +12,16 @@ use sheets::Sheet;
 use std::alloc::AllocError;
 use std::marker::Model;
 
-/// What becomes of the leaves that came and went.
+/// What becomes of the notes of leaves that came and went.
 #[derive(Clone, Copy)]
 pub(crate) enum Finish {
-    /// What came and what went is final.
+    /// They are final.
     Settle,
-    /// It is undone.
+    /// They are undone.
     Revert,
 }
 
-/// A text's leaf with its pin, where it has one, and how many leaves used it, came and went.
+/// A text's leaf with its pin, if it has one, and how many leaves used it, came and left.
 #[derive(Drop)]
 pub(crate) struct Held<J: Job> {
     leaf: Leaf<J>,
@@ -42,7 +42,7 @@ impl<J: Job> Model for Held<J> {
 }
 
 impl<J: Job> Held<J> {
-    /// A text whose first leaf came now.
+    /// A text whose first leaf has just come.
     pub fn new(leaf: Leaf<J>, pin: Option<Pin<MapRecipe<J>>>) -> Held<J>
         requires { All (λ p. p.digest ≡ digest_of_input leaf) (maybe_pins pin) }
         ensures { result ≡ new_text leaf (maybe_pins pin) }
@@ -71,7 +71,7 @@ impl<J: Job> Held<J> {
         self.leaf.sheet(part)
     }
 
-    /// Its leaf once more, where one more leaf can be counted. Fails where a count is full.
+    /// A share of its leaf, if one more leaf can be counted. It fails if a count is full.
     pub fn lend(&self) -> Result<Leaf<J>, AllocError>
         ensures leaf { IfOk result (λ l. l ≡ self.now.input) }
         ensures room { OnOk result (self.now.used + self.now.came < 2 ^ 64 - 1) }
@@ -82,7 +82,7 @@ impl<J: Job> Held<J> {
         self.leaf.share()
     }
 
-    /// One more leaf came.
+    /// Notes that one more leaf came.
     pub fn come(&mut self)
         requires { self.old.used + self.old.came < 2 ^ 64 - 1 }
         ensures { self.new ≡ with_came self.old }
@@ -90,7 +90,7 @@ impl<J: Job> Held<J> {
         self.came += 1;
     }
 
-    /// One more leaf went.
+    /// Notes that one more leaf left.
     pub fn leave(&mut self)
         requires { self.old.gone < self.old.used }
         ensures { self.new ≡ with_gone self.old }
@@ -98,7 +98,7 @@ impl<J: Job> Held<J> {
         self.gone += 1;
     }
 
-    /// How many leaves that used it when the notes were last made final are still there.
+    /// How many of the leaves that used it when the notes were last made final are still there.
     pub fn left(&self) -> u64
         ensures { result + self.now.gone ≡ self.now.used }
     {

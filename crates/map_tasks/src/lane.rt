@@ -26,8 +26,8 @@ use std::marker::Model;
 use std::mem::replace;
 use std::sync::Wait;
 
-/// Texts with their leaves, and how many leaves of the window use each. Leaves that come and go are noted, and the notes
-/// made final or undone as a whole.
+/// Texts with their leaves, and how many leaves of the window use each. Leaves that come and leave are noted; all notes
+/// together are made final or undone.
 #[derive(Drop)]
 pub struct Lane<J: Job> {
     alloc: Global,
@@ -65,8 +65,8 @@ impl<J: Job> Lane<J> {
         }
     }
 
-    /// The number of its caller. What the caller has seen of each shard is a legal history with its own events in order,
-    /// and it holds exactly the lane's pins, in each shard whose lock was not shown worn.
+    /// The number of its caller. What the caller has seen of each shard is a legal history with its own events in
+    /// order, and in each shard whose lock was not shown worn it holds exactly the lane's pins.
     pub fn number(&self) -> u64
         ensures number { result ≡ self.now.caller.number }
         ensures fits { CallerFits self.now.caller }
@@ -75,7 +75,7 @@ impl<J: Job> Lane<J> {
         self.caller.number()
     }
 
-    /// How many texts it holds, no one twice.
+    /// How many distinct texts it holds.
     pub fn len(&self) -> usize
         ensures count { result ≡ length self.now.texts }
         ensures sound { AreSound self.now.texts }
@@ -90,7 +90,7 @@ impl<J: Job> Lane<J> {
         self.texts.len() == 0
     }
 
-    /// How many leaves of these records may still go until the lane is next settled or reverted.
+    /// How many leaves of these records may still leave until the lane is next settled or reverted.
     pub fn left(&self, bundle: &Bundle) -> u64
         ensures { result + gone_of bundle.now self.now.texts ≡ used_of bundle.now self.now.texts }
     {
@@ -98,12 +98,12 @@ impl<J: Job> Lane<J> {
         self.texts.left(&digest_of(records), records)
     }
 
-    /// A leaf of these records comes: their sheets, in so many parts. It is `bring_input` with the input made here, so the
-    /// records are hashed.
+    /// Brings a leaf of these records: their sheets, in `parts` parts. It is `bring_input` with the input made here, so
+    /// the records are hashed.
     ///
     /// # Errors
     ///
-    /// Want of memory, with the texts as they were.
+    /// Out of memory; the texts are unchanged.
     pub fn bring<W: Wait>(
         &mut self,
         rt: &W,
@@ -124,7 +124,7 @@ impl<J: Job> Lane<J> {
         ensures mapped { All (IsMappedSo parts (J.setting job.now)) self.new.texts }
         ensures pinned { StayPinned self.old.texts self.new.texts }
 
-        // Whatever it answers, a text that is held costs nothing, and no other costs more than its mapping.
+        // Whatever it returns, a text that is held costs nothing, and no other costs more than its mapping.
         ensures held { IsHeld bundle.now self.old.texts → J.Meter.counts m.new ≡ J.Meter.counts m.old }
         ensures counted { RoseBy (length bundle.now) 0 (length (pairs_of (J.emits (J.setting job.now)) bundle.now)) (J.Meter.counts m.old) (J.Meter.counts m.new) }
 
@@ -141,13 +141,13 @@ impl<J: Job> Lane<J> {
         self.bring_input(rt, memo, job, run, &input, m)
     }
 
-    /// A leaf of this input comes: its sheets. A text that the lane holds costs one look-up and one comparison; another is
-    /// asked of the memo, and mapped and kept where the memo has no entry of it. A worn lock, and an entry of another
-    /// input with its digest, leave it without a pin.
+    /// Brings a leaf of this input: its sheets. A text that the lane holds costs one look-up and one comparison; any
+    /// other is looked up in the memo, and mapped and kept if the memo has no entry of it. If a lock is worn, or an
+    /// entry of another input has its digest, it has no pin. It may block.
     ///
     /// # Errors
     ///
-    /// Want of memory, with the texts as they were.
+    /// Out of memory; the texts are unchanged.
     pub fn bring_input<W: Wait>(
         &mut self,
         rt: &W,
@@ -168,7 +168,7 @@ impl<J: Job> Lane<J> {
         ensures mapped { All (IsMappedSo input.now.parts input.now.setting) self.new.texts }
         ensures pinned { StayPinned self.old.texts self.new.texts }
 
-        // Whatever it answers, a text that is held costs nothing, and no other costs more than its mapping.
+        // Whatever it returns, a text that is held costs nothing, and no other costs more than its mapping.
         ensures held { IsHeld input.now.text self.old.texts → J.Meter.counts m.new ≡ J.Meter.counts m.old }
         ensures counted { RoseBy (length input.now.text) 0 (length (pairs_of (J.emits (J.setting job.now)) input.now.text)) (J.Meter.counts m.old) (J.Meter.counts m.new) }
 
@@ -200,7 +200,7 @@ impl<J: Job> Lane<J> {
         }
     }
 
-    /// A leaf of these records goes, which are hashed for it. It takes no memory and no turn.
+    /// Notes that a leaf of these records leaves; the records are hashed for it. It takes no memory and no turn.
     pub fn leave(&mut self, bundle: &Bundle)
         requires there { gone_of bundle.now self.old.texts < used_of bundle.now self.old.texts }
         ensures texts { Leaves bundle.now self.old.texts self.new.texts }
@@ -212,7 +212,7 @@ impl<J: Job> Lane<J> {
         self.texts.leave(&digest_of(records), records);
     }
 
-    /// A leaf of this input goes. It takes no memory and no turn.
+    /// Notes that a leaf of this input leaves. It takes no memory and no turn.
     pub fn leave_input(&mut self, input: &LeafInput)
         requires there { gone_of input.now.text self.old.texts < used_of input.now.text self.old.texts }
         ensures texts { Leaves input.now.text self.old.texts self.new.texts }
@@ -223,7 +223,7 @@ impl<J: Job> Lane<J> {
         self.texts.leave(&input.digest(), input.bundle().records());
     }
 
-    /// The sheet of a part of an input that it holds, shared. It fails only where the count of its owners is full.
+    /// A share of the sheet of a part of an input that it holds. It fails only if the count of owners is full.
     pub fn sheet_of(&self, input: &LeafInput, part: u32) -> Result<Sheet<J>, AllocError>
         requires held { IsHeld input.now.text self.now.texts }
         requires mapped { All (IsMappedSo input.now.parts input.now.setting) self.now.texts }
@@ -236,8 +236,8 @@ impl<J: Job> Lane<J> {
         }
     }
 
-    /// Makes what came and what went final, and gives the pins up that no text needs. It takes no memory; it costs the
-    /// texts of which leaves came or went, and may wait for a turn for each pin.
+    /// Makes all notes final, and gives up the pins that no text needs. It takes no memory, walks only the texts with
+    /// notes, and may block for each pin.
     pub fn settle<W: Wait>(&mut self, rt: &W, memo: &Memo<MapRecipe<J>>)
         requires of { self.old.caller.locks ≡ memo.now.locks }
         ensures texts { Settles self.old.texts self.new.texts }
@@ -257,8 +257,8 @@ impl<J: Job> Lane<J> {
         let _ = self.caller.number();
     }
 
-    /// Undoes what came and what went since the lane was last settled or reverted, and gives the pins up that no text
-    /// needs. It takes no memory; it costs the texts of which leaves came or went, and may wait for a turn for each pin.
+    /// Undoes all notes since the lane was last settled or reverted, and gives up the pins that no text needs. It takes
+    /// no memory, walks only the texts with notes, and may block for each pin.
     pub fn revert<W: Wait>(&mut self, rt: &W, memo: &Memo<MapRecipe<J>>)
         requires of { self.old.caller.locks ≡ memo.now.locks }
         ensures texts { Reverts self.old.texts self.new.texts }
@@ -278,7 +278,7 @@ impl<J: Job> Lane<J> {
         let _ = self.caller.number();
     }
 
-    /// The caller again. The entries of texts that the lane holds stay pinned for the memo's life.
+    /// Gives the caller back. The entries of texts that the lane holds stay pinned for the memo's life.
     pub fn into_caller(self) -> Caller<MapRecipe<J>>
         ensures { result ≡ self.caller }
     {

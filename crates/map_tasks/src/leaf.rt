@@ -1,4 +1,4 @@
-//! Leaves: the sheets of an input, which the lane and whoever brought it share.
+//! Leaves: the sheets of an input, which the lane shares with the code that brought it.
 ghost use Rattle.std.specs.Prelude.{◌≡◌, ◌<◌, IfOk};
 ghost use Rattle.map_tasks.specs.Leaves.{AreSheetsOf, sheet_for};
 
@@ -9,15 +9,15 @@ use std::alloc::{AllocError, Global};
 use std::marker::Model;
 use std::sync::Arc;
 
-// An input with its sheets by the part.
+// An input with its sheets, one for each part.
 #[derive(Drop)]
 struct Row<J: Job> {
     input: LeafInput,
     sheets: Vec<Sheet<J>>,
 }
 
-/// The sheets of an input, one for each part, shared. It is seen as its input, and its type keeps that the sheets are
-/// those that the records are mapped to.
+/// The sheets of an input, one for each part, shared. It is modelled by its input, and its type keeps that the sheets
+/// are those that the records are mapped to.
 #[derive(Drop)]
 pub struct Leaf<J: Job> {
     row: Arc<Row<J>, Global>,
@@ -64,7 +64,7 @@ impl<J: Job> Leaf<J> {
         &self.row.sheets[part as usize]
     }
 
-    /// The same leaf once more. Nothing is copied; it fails only where the count of its owners is full.
+    /// Another owner of the same leaf. Nothing is copied; it fails only if the count of owners is full.
     pub fn share(&self) -> Result<Leaf<J>, AllocError>
         ensures { IfOk result (λ l. l ≡ self.now) }
     {

@@ -1,4 +1,4 @@
-//! What a leaf is mapped from. Its digest is computed with it, since the lane, the shard and the memo all need it.
+//! The input of a leaf. Its digest is computed with it, since the lane, the shard and the memo all need it.
 ghost use Rattle.std.specs.Prelude.{◌≡◌, ◌↔◌, ◌∷◌, IsTrue, IfOk};
 ghost use Rattle.definitions.specs.Records.{text_of};
 ghost use Rattle.sha2.specs.Sha256.{sha256};
@@ -9,7 +9,7 @@ use sha2::{Digest, Sha256};
 use std::alloc::AllocError;
 use std::marker::Model;
 
-/// The digest of a leaf with these records: SHA-256 over the byte 0 and their text.
+/// The digest of a leaf with these records: SHA-256 (FIPS 180-4) of the byte 0 and their text.
 pub(crate) fn digest_of(records: &Records) -> [u8; 32]
     ensures { result ≡ input_digest records.now }
 {
@@ -19,7 +19,7 @@ pub(crate) fn digest_of(records: &Records) -> [u8; 32]
     hasher.finalize()
 }
 
-/// The records of a leaf, into how many parts they are mapped, and the number that the job is set to.
+/// The records of a leaf, the number of parts into which they are mapped, and the number that the job is set to.
 #[derive(Drop)]
 pub struct LeafInput {
     bundle: Bundle,
@@ -74,15 +74,15 @@ impl LeafInput {
         self.setting
     }
 
-    /// The digest: SHA-256 over the byte 0 and the text of the records. It takes no time, and serves to place an input
-    /// and to look it up, and never to tell two inputs equal.
+    /// The digest: SHA-256 (FIPS 180-4) of the byte 0 and the text of the records. It was computed with the input. It
+    /// serves to place an input and to look it up; equal digests never make two inputs equal.
     pub fn digest(&self) -> [u8; 32]
         ensures { result ≡ input_digest self.now.text }
     {
         self.digest
     }
 
-    /// Whether two inputs are equal. Texts are compared where all else is equal, their digests too.
+    /// Whether two inputs are equal. Texts are compared if everything else is equal, including their digests.
     pub fn same(&self, other: &LeafInput) -> bool
         ensures { IsTrue result ↔ (self.now ≡ other.now) }
     {
@@ -92,7 +92,7 @@ impl LeafInput {
             && self.bundle.records().same(other.bundle.records())
     }
 
-    /// An equal input. The records are not copied; it fails only where the count of their owners is full.
+    /// An equal input. The records are not copied; it fails only if the count of owners is full.
     pub fn share(&self) -> Result<LeafInput, AllocError>
         ensures { IfOk result (λ i. i ≡ self.now) }
     {

@@ -1,4 +1,4 @@
-//! What the memo of leaves keeps: for each input the sheets that its records are mapped to.
+//! What the memo of leaves keeps: the sheets that the records of each input are mapped to.
 ghost use Rattle.std.specs.Prelude.{◌≡◌, IfOk};
 
 use crate::leaf_input::LeafInput;
@@ -8,7 +8,7 @@ use sheets::Sheet;
 use std::alloc::{AllocError, Global};
 use std::marker::PhantomData;
 
-/// Inputs of leaves, each with the answer of `map_sheets`: a sheet for each part.
+/// Inputs of leaves, each with the result of `map_sheets`: a sheet for each part.
 #[derive(Drop)]
 pub struct MapRecipe<J: Job> {
     marker: PhantomData<J>,
@@ -43,7 +43,7 @@ impl<J: Job> Recipe for MapRecipe<J> {
     }
 }
 
-/// The same sheets once more. Nothing of them is copied.
+/// Shares of the sheets. Nothing is copied.
 pub(crate) fn share_all<J: Job>(
     alloc: Global,
     sheets: &[Sheet<J>],

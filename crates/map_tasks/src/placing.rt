@@ -1,4 +1,4 @@
-//! Which lane a leaf belongs to, so that equal texts meet in one lane.
+//! The lane of a leaf, so that equal texts meet in one lane.
 ghost use Rattle.std.specs.Prelude.{◌≡◌, ◌<◌};
 ghost use Rattle.map_tasks.specs.Inputs.{lane_at};
 

@@ -1,4 +1,4 @@
-//! Lanes of a small job, through the bound, over memos of two callers, of which the other one sweeps.
+//! Lanes of a small job, through the bound, over memos of two callers, of which the second sweeps.
 ghost use Rattle.std.specs.Prelude.{◌≡◌, ◌^◌, ◌≤◌, ◌∷◌, [], true, refl, All, IfOk};
 ghost use Rattle.map_tasks.specs.Texts.{IsMappedSo};
 
@@ -13,7 +13,7 @@ use std::sync::Wait;
 use std::test::Fail;
 use std::thread::join_mut;
 
-// One mark for each record, all under one key, where the last one stays.
+// One mark for each record, all under one key, of which the last is kept.
 #[derive(Drop)]
 struct Marks<M: Meter> {
     meter: PhantomData<M>,
@@ -135,7 +135,7 @@ fn bring<W: Wait>(
     }
 }
 
-// Brings a leaf of a bundle in two parts by its input: how many entries the lane's sheets of it have.
+// Brings a leaf of a bundle in two parts by its input, and returns how many entries the lane's sheets of it have.
 fn bring_entries<W: Wait>(
     rt: &W,
     memo: &Memo<MapRecipe<Marks<CountMeter>>>,
@@ -159,7 +159,7 @@ fn bring_entries<W: Wait>(
     Ok(first.entries().len().saturating_add(second.entries().len()))
 }
 
-// Lets a leaf of a bundle go, where one is there.
+// Lets a leaf of a bundle leave, if there is one.
 fn leave(
     memo: &Memo<MapRecipe<Marks<CountMeter>>>,
     lane: &mut Lane<Marks<CountMeter>>,
@@ -283,7 +283,7 @@ fn a_text_that_leaves_and_comes_back_costs_nothing(rt: HostRuntime) -> Result<()
     let _back = bring(&rt, &memo, &mut lane, &bundle, &mut m)?;
     settle(&rt, &memo, &mut lane);
     assert_eq!(rt; lane.left(&bundle), 1);
-    // It goes from the lane, and is still in the memo.
+    // It leaves the lane, and is still in the memo.
     assert!(rt; leave(&memo, &mut lane, &bundle));
     settle(&rt, &memo, &mut lane);
     assert!(rt; lane.is_empty());
@@ -340,7 +340,7 @@ fn out_of_memory_a_lane_is_as_before(rt: HostRuntime) -> Result<(), Fail> {
     Ok(())
 }
 
-// Brings a leaf of a bundle, makes that final and lets it go: how many entries its sheets have.
+// Brings a leaf of a bundle, settles, and lets it leave; returns how many entries its sheets have.
 fn come_and_go<W: Wait>(
     rt: &W,
     memo: &Memo<MapRecipe<Marks<CountMeter>>>,

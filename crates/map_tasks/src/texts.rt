@@ -18,15 +18,15 @@ use sheets::Sheet;
 use std::alloc::{AllocError, Global};
 use std::marker::Model;
 
-/// Texts by their digests. Those with notes, of leaves that came or went, are behind the calm ones, so that making the
-/// notes final costs the notes and not the texts.
+/// Texts by their digests. Those with notes, of leaves that came or left, come after those without, the calm ones, so
+/// that making the notes final costs the notes and not the texts.
 #[derive(Drop)]
 pub(crate) struct Texts<J: Job> {
-    // A text's digest with 0, or with a number of its own where another text had its digest.
+    // The key is a text's digest with 0, or with a number of its own if another text had the digest.
     map: IndexMap<([u8; 32], u64), Held<J>>,
-    // How many calm texts are in front.
+    // How many calm texts come first.
     calm: usize,
-    // The next of these numbers, 1 as long as no two texts had one digest.
+    // The next of these numbers, 1 until two texts have had one digest.
     next: u64,
 }
 
@@ -61,7 +61,7 @@ impl<J: Job> Texts<J> {
         self.map.len()
     }
 
-    /// The place of the text of these records, by its digest, and compared whole.
+    /// The place of the text of these records, found by its digest and compared whole.
     pub fn find(&self, digest: &[u8; 32], records: &Records) -> Option<usize>
         requires { digest.now ≡ input_digest records.now }
         ensures { FindsText records.now self.now.rows result }
@@ -81,7 +81,7 @@ impl<J: Job> Texts<J> {
         self.walk(records)
     }
 
-    // The place of the text, by comparing each, where two texts had one digest.
+    // The place of the text, by comparing each text, if two texts have had one digest.
     fn walk(&self, records: &Records) -> Option<usize>
         ensures { FindsText records.now self.now.rows result }
     {
@@ -109,7 +109,7 @@ impl<J: Job> Texts<J> {
         }
     }
 
-    /// How many leaves of these records were there when the notes were last made final and did not go since.
+    /// How many leaves of these records were there when the notes were last made final, and have not left since.
     pub fn left(&self, digest: &[u8; 32], records: &Records) -> u64
         requires { digest.now ≡ input_digest records.now }
         ensures { result + gone_of records.now (texts_in self.now.rows) ≡ used_of records.now (texts_in self.now.rows) }
@@ -123,7 +123,7 @@ impl<J: Job> Texts<J> {
         }
     }
 
-    // Moves a text behind the calm ones, and answers its place there.
+    // Moves a text behind the calm ones, and returns its place there.
     fn touch(&mut self, place: usize) -> usize
         requires { place < length self.old.rows }
         ensures { Touches place result self.old self.new }
@@ -136,7 +136,7 @@ impl<J: Job> Texts<J> {
         self.calm
     }
 
-    /// One more leaf of the text at a place came: its leaf. Fails where a count is full.
+    /// Notes that one more leaf of the text at a place came, and returns it. It fails if a count is full.
     pub fn come(&mut self, place: usize) -> Result<Leaf<J>, AllocError>
         requires { place < length self.old.rows }
         ensures leaf { IfOk result (λ l. (r : (List ℕ × ℕ) × TextView) → slice_get self.old.rows place ≡ Some r → l ≡ r.1.input) }
@@ -153,7 +153,7 @@ impl<J: Job> Texts<J> {
         Ok(leaf)
     }
 
-    // The leaf of the text at a place, where one more leaf of it can be counted.
+    // The leaf of the text at a place, if one more leaf of it can be counted.
     fn lend(&self, place: usize) -> Result<Leaf<J>, AllocError>
         requires { place < length self.now.rows }
         ensures leaf { IfOk result (λ l. (r : (List ℕ × ℕ) × TextView) → slice_get self.now.rows place ≡ Some r → l ≡ r.1.input) }
@@ -165,7 +165,7 @@ impl<J: Job> Texts<J> {
         }
     }
 
-    /// One more leaf of these records went.
+    /// Notes that one more leaf of these records left.
     pub fn leave(&mut self, digest: &[u8; 32], records: &Records)
         requires digest { digest.now ≡ input_digest records.now }
         requires there { gone_of records.now (texts_in self.old.rows) < used_of records.now (texts_in self.old.rows) }
@@ -177,7 +177,7 @@ impl<J: Job> Texts<J> {
         }
     }
 
-    // One more leaf of the text at a place went.
+    // Notes that one more leaf of the text at a place left.
     fn leave_at(&mut self, place: usize)
         requires { (r : (List ℕ × ℕ) × TextView) × (slice_get self.old.rows place ≡ Some r) × (r.1.gone < r.1.used) }
         ensures { (r : (List ℕ × ℕ) × TextView) → slice_get self.old.rows place ≡ Some r → Changes r.1.input.text with_gone (texts_in self.old.rows) (texts_in self.new.rows) }
@@ -187,7 +187,7 @@ impl<J: Job> Texts<J> {
         held.leave();
     }
 
-    /// A text more, of which one leaf came, with a share of its leaf. It keeps the pin where no other text has its digest.
+    /// Adds a text, of which one leaf came, with a share of its leaf. It keeps the pin if no other text has its digest.
     pub fn insert(&mut self, leaf: Leaf<J>, pin: Option<Pin<MapRecipe<J>>>) -> Brought<J>
         requires absent { FindsText leaf.text self.old.rows None }
         requires pin { All (λ p. p.digest ≡ digest_of_input leaf) (maybe_pins pin) }
@@ -222,7 +222,7 @@ impl<J: Job> Texts<J> {
         }
     }
 
-    // The first text of its digest, with its pin. Where memory is wanting, the pin comes back.
+    // Adds the first text of its digest, with its pin. Out of memory, the pin comes back.
     fn insert_first(
         &mut self,
         digest: [u8; 32],
@@ -245,7 +245,7 @@ impl<J: Job> Texts<J> {
         }
     }
 
-    // A text whose digest another one has, without a pin.
+    // Adds a text whose digest another one has, without a pin.
     fn insert_another(&mut self, digest: [u8; 32], leaf: Leaf<J>) -> Result<(), AllocError>
         requires digest { digest ≡ input_digest leaf.text }
         requires absent { FindsText leaf.text self.old.rows None }
@@ -275,7 +275,7 @@ impl<J: Job> Texts<J> {
         self.calm < self.map.len()
     }
 
-    /// The first of those that are not final becomes final, or is taken out where no leaf uses it.
+    /// Makes the first text that is not final final, or removes it if no leaf uses it.
     pub fn finish_next(&mut self, how: Finish) -> Option<Held<J>>
         requires { self.old.calm < length self.old.rows }
         ensures { FinishesNext how self.old self.new result }
@@ -284,7 +284,7 @@ impl<J: Job> Texts<J> {
             Some((_, held)) => held.rest(how),
             None => unreachable!(),
         };
-        // What was read shows that the place is within the map.
+        // Reading the length gives the prover that the place is within the map.
         let _count = self.map.len();
         if rest > 0 {
             let (_, held) = self.map.pair_mut(self.calm);

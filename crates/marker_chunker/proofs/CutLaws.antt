@@ -1,4 +1,4 @@
--- Cutting from a boundary on, and what shares of chunks stay chunks.
+-- Cutting from a boundary on, and which parts of chunks stay chunks.
 use Rattle.std.proofs.Common.{◌≡◌, ◌<◌, ◌≤◌, ℕ, suc, ◌+◌, true, false, cond, List, [], ◌∷◌, ◌++◌, length, Some, None, Option, refl, sym, ap, subst, ◌∙◌, arith, append-nil, append_assoc, take, zero, length-append, get_or}
 use Rattle.definitions.specs.Records.{text_of}
 use Rattle.marker_chunker.specs.Markers.{is_marker}
@@ -140,7 +140,7 @@ within (d ∷ done) cs k (suc q) p l e =
     let g = length-append d (joined done) in
     within done cs k q p l (omega arith)
 
--- where a begun chunk does not end, there is no boundary
+-- if a begun chunk does not end, there is no boundary
 pub no_boundary : (done : List (List (List ℕ))) (s : List ℕ) (rs : List (List ℕ)) (r : List ℕ) (rest : List (List ℕ)) (q : ℕ)
     → AreChunks done (Some s) → IsOpen (s ∷ []) rs → ends (s ∷ rs) (Some r) ≡ false
     → reach q (chunks_of ((joined done ++ s ∷ rs) ++ r ∷ rest)) ≡ length (joined done ++ s ∷ rs) → ⊥

@@ -26,7 +26,7 @@ grown_hash p m b n =
     sums : (r d p m b n : ℕ) → n * d + r ≡ p → (r * m + b) + n * (d * m) ≡ (p * m + b) + n * 0
     sums r d p m b n e = grind arith
 
--- the window lets its first byte go: `top` is the power that the byte had, and `k` makes its next power a multiple of n
+-- the window loses its first byte: `top` is the power that the byte had, and `k` makes its next power a multiple of n
 pub rolled_hash : (x q m top b k n c : ℕ) → top * m + k ≡ n * c → ((x * top + q) % n * m + b + x * k) % n ≡ (q * m + b) % n
 rolled_hash x q m top b k n c e =
     let split = div-add-mod (x * top + q) n in
@@ -42,7 +42,7 @@ rolled_hash x q m top b k n c e =
 multiple : 16777619 ^ 15 * 16777619 + 3416554943 ≡ 2 ^ 32 * ((16777619 ^ 16 + 3416554943) / 2 ^ 32)
 multiple = refl
 
--- what the code computes where the window is full
+-- what the code computes if the window is full
 pub full_hash : (x : ℕ) (window : List ℕ) (b : ℕ) → length window ≡ 15 → (window_hash (x ∷ window) * 16777619 + b + x * 3416554943) % 2 ^ 32 ≡ window_hash (window ++ b ∷ [])
 unfolding window_hash
 full_hash x window b l =
@@ -64,7 +64,7 @@ ring_grows bytes len head b l m h =
     ∙ ap (λ x. take len x ++ b ∷ []) (sym (append-nil bytes))
     ∙ ap (λ k. take len (drop k bytes ++ take k bytes) ++ b ∷ []) (sym h)
 
--- the ring that is full: its first byte, and the others
+-- the full ring: its first byte, and the others
 pub ring_first : (bytes : List ℕ) (head : ℕ) → length bytes ≡ 16 → head < 16 → take 16 (drop head bytes ++ take head bytes) ≡ get_or bytes head 0 ∷ (drop (head + 1) bytes ++ take head bytes)
 ring_first bytes head l m =
     let a = length-append (drop head bytes) (take head bytes) in

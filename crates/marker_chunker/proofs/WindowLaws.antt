@@ -1,4 +1,4 @@
--- A record is a marker exactly where some window of its text marks.
+-- A record is a marker exactly if some window of its text marks.
 use Rattle.std.proofs.Common.{◌≡◌, ◌≤◌, ◌<◌, ℕ, ◌+◌, ◌-◌, Bool, true, false, ◌&&◌, nat_lt, List, [], ◌∷◌, ◌++◌, length, take, drop, refl, sym, ap, subst, ◌∙◌, arith, append_assoc, length-append, inl, inr}
 use Rattle.std.proofs.lemmas.List.{length_push, length-take-le, drop-take, take_at}
 use Rattle.std.proofs.lemmas.Bool.{lt-ltb, ltb-false, ltb-true, or_cases, or_right, cases_order}
@@ -11,7 +11,7 @@ window_is text e h l =
     let all : e ≡ (e - 16) + 16 = omega arith in
     ap (λ k. drop k (take e text)) size ∙ ap (λ k. drop (e - 16) (take k text)) all ∙ drop-take (e - 16) 16 text
 
--- the window that ends behind the next byte
+-- the window that ends after the next byte
 window_next : (before rest : List ℕ) (b e : ℕ) → e ≡ length before + 1 → 16 ≤ e → last_bytes (before ++ b ∷ []) ≡ take 16 (drop (e - 16) (before ++ b ∷ rest))
 window_next before rest b e is h =
     let push = length_push before b in

@@ -9,13 +9,13 @@ abbrev pub first_or : Option (List ℕ) → List (List ℕ) → Option (List ℕ
 first_or next [] = next
 first_or next (r ∷ rs) = Some r
 
--- Whether the last of these records is a marker; of no records, not.
+-- Whether the last of these records is a marker; of no records, false.
 abbrev pub last_marks : List (List ℕ) → Bool
 last_marks [] = false
 last_marks (r ∷ []) = is_marker r
 last_marks (r ∷ s ∷ rs) = last_marks (s ∷ rs)
 
--- The least bytes of text with which a marker ends a chunk.
+-- The least bytes of text at which a marker ends a chunk.
 abbrev pub least_chunk : ℕ
 least_chunk = 512
 
@@ -23,21 +23,22 @@ least_chunk = 512
 abbrev pub most_chunk : ℕ
 most_chunk = 65536
 
--- Whether a chunk of so many bytes ends before a record of so many, where `marks` says that its last is a marker.
+-- Whether a chunk of a given size in bytes ends before a record of a given size, where `marks` says that its last
+-- record is a marker.
 abbrev pub ends_by : Bool → ℕ → ℕ → Bool
 ends_by marks size more = (marks && nat_le least_chunk size) || nat_lt most_chunk (size + (more + 1))
 
--- Whether the chunk that these records begin ends behind them, where `next` follows.
+-- Whether the chunk that these records begin ends after them, where `next` follows.
 unfoldable pub ends : List (List ℕ) → Option (List ℕ) → Bool
 ends begun None = true
 ends begun (Some next) = ends_by (last_marks begun) (length (text_of begun)) (length next)
 
--- The chunks of the begun records with the others: a chunk is the shortest that ends.
+-- The chunks of the begun records and the others: each chunk is the shortest prefix that ends.
 unfoldable pub cut_on : List (List ℕ) → List (List ℕ) → List (List (List ℕ))
 cut_on begun [] = begun ∷ []
 cut_on begun (r ∷ rs) = cond (ends begun (Some r)) (begun ∷ cut_on (r ∷ []) rs) (cut_on (begun ++ r ∷ []) rs)
 
--- The chunks of a list of records, cut from nothing; no records have none.
+-- The chunks of a list of records, cut from nothing; no records have no chunks.
 unfoldable pub chunks_of : List (List ℕ) → List (List (List ℕ))
 chunks_of [] = []
 chunks_of (r ∷ rs) = cut_on (r ∷ []) rs
@@ -47,7 +48,7 @@ abbrev pub joined : List (List (List ℕ)) → List (List ℕ)
 joined [] = []
 joined (c ∷ cs) = c ++ joined cs
 
--- The begun records go on as these, end there and not before.
+-- The begun records go on with these, and end there and not before.
 abbrev pub GoesOn : List (List ℕ) → List (List ℕ) → Option (List ℕ) → Type 0
 GoesOn begun [] next = ends begun next ≡ true
 GoesOn begun (r ∷ rs) next = (ends begun (Some r) ≡ false) × GoesOn (begun ++ r ∷ []) rs next
@@ -62,7 +63,7 @@ abbrev pub IsChunk : List (List ℕ) → Option (List ℕ) → Type 0
 IsChunk [] next = ⊥
 IsChunk (r ∷ rs) next = GoesOn (r ∷ []) rs next
 
--- These are chunks, one behind the other, where `next` follows.
+-- These are chunks, one after the other, where `next` follows.
 abbrev pub AreChunks : List (List (List ℕ)) → Option (List ℕ) → Type 0
 AreChunks [] next = Unit {0}
 AreChunks (c ∷ cs) next = IsChunk c (first_or next (joined cs)) × AreChunks cs next

@@ -18,7 +18,7 @@ marks window = window_hash window % 4096 == 4095
 abbrev pub last_bytes : List ℕ → List ℕ
 last_bytes bytes = drop (length bytes - 16) bytes
 
--- Whether some window of 16 successive bytes marks that ends behind the bytes before.
+-- Whether some window of 16 successive bytes marks that ends after `before`.
 unfoldable pub some_marks : List ℕ → List ℕ → Bool
 some_marks before [] = false
 some_marks before (b ∷ bs) = (nat_lt 15 (length (before ++ b ∷ [])) && marks (last_bytes (before ++ b ∷ []))) || some_marks (before ++ b ∷ []) bs
@@ -27,12 +27,12 @@ some_marks before (b ∷ bs) = (nat_lt 15 (length (before ++ b ∷ [])) && marks
 unfoldable pub is_marker : List ℕ → Bool
 is_marker r = cond (nat_lt (length r) 15) (marks (r ++ 10 ∷ [])) (some_marks [] (r ++ 10 ∷ []))
 
--- 16 successive bytes of these mark.
+-- Some 16 successive bytes of these mark.
 pub record HasWindow (bytes : List ℕ) : Type 0 where
   pub place : ℕ
   pub within : place + 16 ≤ length bytes
   pub marked : marks (take 16 (drop place bytes)) ≡ true
 
--- The text of a marker, window by window: where it has fewer than 16 bytes, it is the one window.
+-- The text of a marker, window by window: if it has fewer than 16 bytes, it is the only window.
 abbrev pub IsMarkerText : List ℕ → Type 0
 IsMarkerText text = ((length text < 16) × (marks text ≡ true)) ⊎ HasWindow text

@@ -1,4 +1,4 @@
-//! Where a chunk ends: behind a marker once it has some text, or where the next record would make its text too long.
+//! Where a chunk ends: after a marker once it has enough text, or before a record that would make its text too long.
 ghost use Rattle.std.specs.Prelude.{◌≡◌, ◌<◌, ◌^◌, length, drop, IfOk};
 ghost use Rattle.marker_chunker.specs.Cuts.{ends_by, first_length, places, chunks_of};
 
@@ -6,7 +6,7 @@ use crate::marker::is_marker;
 use record_text::Records;
 use std::alloc::{AllocError, Global};
 
-/// The least bytes of text with which a marker ends a chunk.
+/// The least bytes of text at which a marker ends a chunk.
 const LEAST_CHUNK: u64 = 512;
 
 /// The most bytes of text of a chunk; the longest record fills one.

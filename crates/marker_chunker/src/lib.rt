@@ -1,6 +1,6 @@
-//! Where a list of records is cut into chunks, by content: the same records give the same chunks wherever they stand.
-//! Start at `first_cut`; `specs/Markers.antt` says which records are markers, and `specs/Cuts.antt` where chunks end.
-//! A cut is one pass over the bytes of the records, and nothing is copied; only the list that `cut_all` answers takes
+//! Where a list of records is cut into chunks, by content: the same records give the same chunks wherever they are.
+//! Start at [`first_cut`]; `specs/Markers.antt` says which records are markers, and `specs/Cuts.antt` where chunks end.
+//! A cut is one pass over the bytes of the records, and nothing is copied; only the list that [`cut_all`] returns takes
 //! memory.
 #![tactic(auto)]
 

@@ -1,11 +1,11 @@
-//! A hash that goes on byte by byte, so that all windows of a record are hashed in one pass over it.
+//! A rolling hash, which hashes all windows of a record in one pass over it.
 ghost use Rattle.std.specs.Prelude.{◌≡◌, ◌+◌, ◌*◌, ◌%◌, ◌^◌, ◌++◌, ◌∷◌, []};
 ghost use Rattle.marker_chunker.specs.Markers.{window_hash, last_bytes, marks};
 
 use std::marker::Model;
 
-// The hash of a window that takes one byte more and lets `out` go. The last factor stands for the power that `out` had,
-// subtracted modulo 2^32.
+// The hash of a window that gains the byte `b` and loses `out`. The last factor subtracts the power that `out` had,
+// modulo 2^32.
 fn rolled(hash: u32, out: u8, b: u8) -> u32
     ensures { result ≡ (hash * 16777619 + b + out * 3416554943) % 2 ^ 32 }
 {
@@ -13,8 +13,8 @@ fn rolled(hash: u32, out: u8, b: u8) -> u32
     (sum & 0xffff_ffff) as u32
 }
 
-/// The hash of the last 16 bytes pushed, or of all where there are fewer, seen as the list of these bytes. It is the
-/// rolling polynomial hash of Karp and Rabin, at 16,777,619 and modulo 2^32. A push takes the same time whatever stands.
+/// The hash of the last 16 bytes pushed, or of all if there are fewer, modelled as the list of these bytes. It is the
+/// rolling polynomial hash of Karp and Rabin, at 16,777,619 and modulo 2^32. A push takes constant time.
 #[derive(Drop)]
 pub struct Roll {
     bytes: [u8; 16],
@@ -54,14 +54,14 @@ impl Roll {
         self.hash
     }
 
-    /// Whether the bytes are a window that makes a marker.
+    /// Whether the hash makes a record with this window a marker.
     pub fn marks(&self) -> bool
         ensures { result ≡ marks self.now }
     {
         self.hash() % 4096 == 4095
     }
 
-    /// One byte more; where there are 16 already, the first goes.
+    /// Adds a byte; if there are 16 already, the first leaves.
     pub fn push(&mut self, b: u8)
         ensures { self.new ≡ last_bytes (self.old ++ b ∷ []) }
     {

@@ -1,9 +1,9 @@
-//! Tests of markers and cuts, with values worked by hand.
+//! Tests of markers and cuts, with values computed by hand.
 use crate::{Roll, cut_all, first_cut, is_marker};
 use record_text::{Records, is_record};
 use std::alloc::{AllocError, Global};
 
-/// Takes the record so many times more.
+/// Adds the record `times` times.
 fn with(mut records: Records, bytes: &[u8], times: usize) -> Result<Records, AllocError> {
     if is_record(bytes) {
         'times: for _ in 0..times {
@@ -15,7 +15,7 @@ fn with(mut records: Records, bytes: &[u8], times: usize) -> Result<Records, All
     Ok(records)
 }
 
-/// So many records of `size` bytes `-`.
+/// A list of `times` records of `size` bytes `-`.
 fn dashes(alloc: Global, size: usize, times: usize) -> Result<Records, AllocError> {
     let mut bytes = Vec::new(alloc);
     'bytes: for _ in 0..size {

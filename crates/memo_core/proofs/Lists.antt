@@ -38,7 +38,7 @@ abbrev pub DistinctDigests : List CoreEntry → Type 0
 DistinctDigests [] = Unit {0}
 DistinctDigests (e ∷ es) = (has_digest e.digest es ≡ false) × DistinctDigests es
 
--- an entry that is kept where the test holds
+-- an entry that is kept if the test holds
 abbrev pub keep_if : (CoreEntry → Bool) → Option CoreEntry → Option CoreEntry
 keep_if p None = None
 keep_if p (Some e) = cond (p e) (Some e) None

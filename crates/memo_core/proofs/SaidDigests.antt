@@ -37,7 +37,7 @@ said_now past s t id i d digest fits named said =
     let live = named_live id d s.entries fits.rising (subst (λ (x : List ℕ). list_any (names id x) s.entries ≡ true) same (subst (λ (k : ℕ). list_any (names k digest) s.entries ≡ true) which named)) in
     subst (λ (x : List ℕ). list_any (stores id x) past ≡ true) ((bytes_eq-Decides live.0.digest d).0 live.2) (fits.made id live.0 live.1)
 
--- an event that says it comes after one that stored it, or is that one
+-- an event that says it comes after the event that stored it, or is that event
 said-step : (past : List Event) (s t : CoreState) (e : Event) (id : ℕ) (d : List ℕ) → Fits past s → after_event s e ≡ Some t → says id d e ≡ true → list_any (stores id d) (past ++ e ∷ []) ≡ true
 said-step past s t (Look c run digest (Hit i)) id d fits is said = list_any-append (stores id d) past _ ∙ first_true _ _ (said_now past s t id i d digest fits (when_some _ _ _ is).0 said)
 said-step past s t (Look c run digest Absent) id d fits is said = cc

@@ -1,4 +1,4 @@
--- What a history of events says of callers, ids, runs and digests.
+-- What a history of events says about callers, ids, runs and digests.
 use Rattle.std.specs.Prelude.{ℕ, ◌+◌, ◌-◌, ◌==◌, ◌&&◌, Bool, false, if◌then◌else◌, List, [], ◌∷◌, Option, Some, None, max}
 use Rattle.std.specs.Str.{bytes_eq}
 use Rattle.memo_core.specs.declared.event.Event.{Event}
@@ -44,7 +44,7 @@ run_of id (Keep who run digest (KeepClash i)) = None
 run_of id (Release who i) = None
 run_of id (Sweep who horizon dropped) = None
 
--- The larger of two runs, where both are there.
+-- The larger of two runs, if both are there.
 abbrev pub larger : Option ℕ → Option ℕ → Option ℕ
 larger None b = b
 larger (Some a) None = Some a

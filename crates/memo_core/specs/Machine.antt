@@ -1,4 +1,4 @@
--- The memo as a machine over events: which events are legal in a state, and what they make of it.
+-- The memo as a machine over events: which events are legal in a state, and the state after them.
 use Rattle.std.specs.Prelude.{ℕ, ◌+◌, ◌-◌, ◌^◌, Bool, true, false, ◌&&◌, ◌||◌, is_some, is_none, not, ◌==◌, nat_lt, max, if◌then◌else◌, List, [], ◌∷◌, ◌++◌, length, filter, option_and_then, Option, Some, None}
 use Rattle.std.specs.List.{list_any}
 use Rattle.std.specs.Option.{option_map_or}
@@ -44,12 +44,12 @@ is_swept horizon e = (length e.pins == 0) && nat_lt e.used horizon
 abbrev pub stored : ℕ → ℕ → ℕ → List ℕ → CoreEntry
 stored caller run id digest = record { id = id; digest = digest; used = run; pins = caller ∷ [] }
 
--- The state, where the test holds.
+-- The state, if the test holds.
 abbrev pub when : Bool → CoreState → Option CoreState
 when true s = Some s
 when false s = None
 
--- What the event makes of the state, where it is legal there.
+-- The state after the event, if it is legal.
 abbrev pub after_event : CoreState → Event → Option CoreState
 after_event s (Look caller run digest (Hit id)) = when (list_any (names id digest) s.entries) (record s { entries = at_id id (pinned caller run) s.entries })
 after_event s (Look caller run digest Absent) = when (not (has_digest digest s.entries)) s
@@ -64,7 +64,7 @@ after_event s (Sweep caller horizon dropped) = when (dropped == length (filter (
 abbrev pub start : CoreState
 start = record { entries = []; next = 0 }
 
--- The state after the events, where each is legal in the state after those before it.
+-- The state after the events, if each is legal in the state after those before it.
 abbrev pub replayed_from : CoreState → List Event → Option CoreState
 replayed_from s [] = Some s
 replayed_from s (e ∷ es) = option_and_then (λ t. replayed_from t es) (after_event s e)
@@ -73,7 +73,7 @@ replayed_from s (e ∷ es) = option_and_then (λ t. replayed_from t es) (after_e
 abbrev pub replayed : List Event → Option CoreState
 replayed events = replayed_from start events
 
--- Each event of the history is legal where it stands.
+-- Each event of the history is legal in the state after those before it.
 abbrev pub is_legal : List Event → Bool
 is_legal events = is_some (replayed events)
 

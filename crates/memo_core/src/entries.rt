@@ -1,4 +1,4 @@
-//! The live entries of a state, in the order of their ids: found by id or by digest, pinned, released and swept in walks over them.
+//! The live entries of a state, in the order of their ids. Walks over them find, pin, release and sweep.
 ghost use Rattle.std.specs.Prelude.{◌≡◌, ◌++◌, ◌∷◌, [], ◌<◌, ◌==◌, ◌↔◌, OnOk, OnErr, IfOk, IsTrue, Some, length, slice_get, filter, not};
 ghost use Rattle.std.specs.List.{list_any};
 
@@ -9,7 +9,7 @@ use std::marker::Model;
 /// A live entry, without its input and result.
 #[derive(Drop)]
 pub struct CoreEntry {
-    /// Its number, which no other entry ever has.
+    /// The number of the entry, which no other entry ever has.
     pub id: u64,
     /// The digest of its input.
     pub digest: [u8; 32],
@@ -29,7 +29,7 @@ impl CoreEntry {
         self.pins.len() == 0 && self.used < horizon
     }
 
-    // One more pin of the caller, in this run.
+    // Adds a pin of the caller, in this run.
     pub(crate) fn pin(&mut self, caller: u64, run: u64) -> Result<(), AllocError>
         ensures { OnOk result (self.new ≡ pinned caller run self.old) }
     {
@@ -38,7 +38,7 @@ impl CoreEntry {
         Ok(())
     }
 
-    // The caller's first pin goes.
+    // Removes the caller's first pin.
     pub(crate) fn release(&mut self, caller: u64)
         ensures { self.new ≡ released caller self.old }
     {
@@ -120,7 +120,7 @@ impl Entries {
             .any(|entry| entry.id == id && entry.pins.contains(caller))
     }
 
-    // A last entry.
+    // Adds an entry at the end.
     pub(crate) fn push(&mut self, entry: CoreEntry) -> Result<(), AllocError>
         ensures { OnOk result (self.new ≡ self.old ++ entry ∷ []) }
     {
@@ -128,7 +128,7 @@ impl Entries {
         Ok(())
     }
 
-    // One more pin of the caller on the entry of the id, in this run.
+    // Adds a pin of the caller on the entry of the id, in this run.
     pub(crate) fn pin(&mut self, id: u64, caller: u64, run: u64) -> Result<(), AllocError>
         ensures { OnOk result (self.new ≡ at_id id (pinned caller run) self.old) }
     {
@@ -140,7 +140,7 @@ impl Entries {
         Ok(())
     }
 
-    // The caller's first pin on the entry of the id goes.
+    // Removes the caller's first pin on the entry of the id.
     pub(crate) fn release(&mut self, id: u64, caller: u64)
         ensures { self.new ≡ at_id id (released caller) self.old }
     {
@@ -161,7 +161,7 @@ impl Entries {
             .count()
     }
 
-    // The entries without pins that were last used below the horizon go, the others keep their order.
+    // Drops the entries without pins that were last used below the horizon; the others keep their order.
     pub(crate) fn sweep(&mut self, horizon: u64)
         ensures { self.new ≡ filter (λ e. not (is_swept horizon e)) self.old }
     {

@@ -1,24 +1,24 @@
-//! What callers ask of the memo, with what it answered.
+//! The calls of a memo, each with its answer.
 
-/// What a look answered, with the id of the live entry that has the digest.
+/// What a look returned, with the id of the live entry that has the digest.
 #[derive(Clone, Copy, PartialEq, Eq, Debug)]
 pub enum LookAnswer {
-    /// The entry's input is the one that was looked for, and the caller has one more pin on it.
+    /// The entry has the input that was looked for, and the caller has one more pin on it.
     Hit(u64),
     /// No live entry has the digest.
     Absent,
-    /// The entry has the digest with another input.
+    /// The entry has the digest, but another input.
     Clash(u64),
 }
 
-/// What a keep answered, with the id of the entry that has the digest now.
+/// What a keep returned, with the id of the entry that has the digest now.
 #[derive(Clone, Copy, PartialEq, Eq, Debug)]
 pub enum KeepAnswer {
     /// A new entry, which the caller has pinned.
     Stored(u64),
-    /// The entry was there with this input, and the caller has one more pin on it.
+    /// There was an entry with this input, and the caller has one more pin on it.
     Found(u64),
-    /// The entry was there with another input.
+    /// There was an entry with the digest and another input.
     Clash(u64),
 }
 
@@ -32,7 +32,7 @@ pub enum Event {
         digest: [u8; 32],
         answer: LookAnswer,
     },
-    /// An entry that is handed in.
+    /// An entry that is given to the memo.
     Keep {
         caller: u64,
         run: u64,
@@ -44,7 +44,7 @@ pub enum Event {
         caller: u64,
         id: u64,
     },
-    /// A collection: `dropped` entries without pins, last used below `horizon`, go.
+    /// A sweep drops the entries without pins that were last used below `horizon`; `dropped` is their number.
     Sweep {
         caller: u64,
         horizon: u64,

@@ -1,8 +1,7 @@
-//! The memo as a pure machine: events of callers, the state that they lead to, and laws over every legal history.
+//! The memo as a pure machine: events of callers, the state that they lead to, and laws of every legal history.
 //!
-//! Start at `Event` for what can happen, then `replay` for what it leads to, then the laws in `laws`.
-//! `replay` walks the live entries once or twice for each event. No code here knows inputs, results, locks or threads,
-//! and none changes a history.
+//! Start at [`Event`], then [`replay`], the state after a list of events, then the laws in `laws`. `replay` walks the
+//! live entries once or twice for each event. No code here knows of inputs, results, locks or threads.
 #![tactic(auto)]
 
 mod entries;

@@ -1,4 +1,4 @@
-//! The pins of an entry: a list of callers, each as often as it holds the entry, of which a release takes the first.
+//! The pins of an entry: a list of callers, each as often as it holds the entry. A release removes the first.
 ghost use Rattle.std.specs.Prelude.{◌≡◌, ◌++◌, ◌∷◌, [], ◌<◌, ◌==◌, ◌↔◌, OnOk, OnErr, IfOk, IsTrue, Some, length, slice_get, position};
 ghost use Rattle.std.specs.List.{list_any};
 ghost use Rattle.memo_core.specs.Pinned.{without_first};
@@ -21,7 +21,7 @@ impl Model for Pins {
 }
 
 impl Pins {
-    /// The one pin of one caller. Fails only for want of memory.
+    /// One pin of a caller. It fails only out of memory.
     pub fn one(alloc: Global, caller: u64) -> Result<Pins, AllocError>
         ensures { IfOk result (λ pins. pins ≡ caller ∷ []) }
     {
@@ -59,7 +59,7 @@ impl Pins {
         self.callers.as_slice().contains(&caller)
     }
 
-    /// One more pin, at the end. Fails only for want of memory, and then nothing has changed.
+    /// Adds a pin at the end. It fails only out of memory, and then nothing changes.
     pub fn push(&mut self, caller: u64) -> Result<(), AllocError>
         ensures ok { OnOk result (self.new ≡ self.old ++ caller ∷ []) }
         ensures err { OnErr result (self.new ≡ self.old) }
@@ -68,7 +68,7 @@ impl Pins {
         Ok(())
     }
 
-    /// Takes the caller's first pin away, where it has one. One walk over the pins.
+    /// Removes the caller's first pin, if it has one. One walk over the pins.
     pub fn release(&mut self, caller: u64)
         ensures { self.new ≡ without_first caller self.old }
     {

@@ -1,4 +1,4 @@
-//! The state of the machine, its live entries and the next id, and what one event makes of it.
+//! The state of the machine: its live entries and the next id. An event is one step.
 ghost use Rattle.std.specs.Prelude.{◌≡◌, IfOk};
 
 use crate::entries::{CoreEntry, Entries};
@@ -11,7 +11,7 @@ use std::alloc::{AllocError, Global};
 pub struct CoreState {
     /// The live entries in the order of making.
     pub entries: Entries,
-    /// As many ids were given, each once, from 0.
+    /// The next id. Ids are given once, from 0 on.
     pub next: u64,
 }
 
@@ -28,8 +28,8 @@ impl CoreState {
         }
     }
 
-    // Makes the event where it is legal, and answers whether it was. Walks the entries once or twice.
-    // Fails only for want of memory, and then the state is of no use.
+    // Applies the event if it is legal, and returns whether it was. It walks the entries once or twice. It fails only
+    // out of memory, and then the state must not be used.
     pub(crate) fn apply(&mut self, alloc: Global, event: &Event) -> Result<bool, AllocError>
         ensures { IfOk result (λ legal. after_event self.old event.now ≡ when legal self.new) }
     {
@@ -88,7 +88,7 @@ impl CoreState {
         }
     }
 
-    // One more pin on the entry of the id, where it has the digest.
+    // Adds a pin on the entry of the id, if it has the digest.
     fn pin(&mut self, caller: u64, run: u64, digest: &[u8; 32], id: u64) -> Result<bool, AllocError>
         ensures { IfOk result (λ legal. after_event self.old (Event.Look caller run digest.now (LookAnswer.Hit id)) ≡ when legal self.new) }
     {
@@ -99,7 +99,7 @@ impl CoreState {
         Ok(true)
     }
 
-    // A new entry, where its id is the next one and no entry has the digest.
+    // Stores a new entry, if its id is the next one and no entry has the digest.
     fn store(
         &mut self,
         alloc: Global,

@@ -1,4 +1,4 @@
--- What the shard's edits are to the machine, to the keys and to the count of pins.
+-- What the shard's edits mean for the machine, for the keys and for the count of pins.
 use Rattle.std.proofs.Common.{◌≡◌, ℕ, zero, suc, ◌+◌, ◌<◌, Bool, true, false, cond, not, ◌||◌, ◌&&◌, ◌==◌, nat_lt, List, [], ◌∷◌, ◌++◌, length, filter, Some, slice_get, refl, sym, ap, subst, ◌∙◌, arith, length-append}
 use Rattle.std.specs.List.{list_any}
 use Rattle.std.proofs.lemmas.Bool.{eqb-true}
@@ -49,7 +49,7 @@ module _ {I O : Type 0} where
     | false ↦ ap (λ (cs : List CoreEntry). record { id = e.1.id; digest = e.0; used = e.1.used; pins = e.1.pins } ∷ cs) (core-swept h es)
   ]
 
-  -- As many go as are stale.
+  -- As many entries are dropped as are stale.
   pub swept-count : (h : ℕ) (es : List (List ℕ × LiveView I O)) → length (filter (λ e. not (is_stale h e.1)) es) + length (filter (λ e. is_stale h e.1) es) ≡ length es
   swept-count h [] = refl
   swept-count h (e ∷ es) = elim (is_stale h e.1) as (λ b. length (cond (not b) (e ∷ filter (λ x. not (is_stale h x.1)) es) (filter (λ x. not (is_stale h x.1)) es)) + length (cond b (e ∷ filter (λ x. is_stale h x.1) es) (filter (λ x. is_stale h x.1) es)) ≡ length (e ∷ es)) [

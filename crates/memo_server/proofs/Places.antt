@@ -78,7 +78,7 @@ module _ {I O : Type 0} where
       let apart : (e.1.id == l.id) ≡ false = (let lt : e.1.id < l.id = ids_above_at e.1.id es i k l rising.0 at in grind (arith, nat_tests)) in
       rw apart (ap (λ (xs : List (List ℕ × LiveView I O)). e ∷ xs) (update-live f es i k l rising.1 at))
 
--- A place with an entry lies within the list.
+-- A place with an entry is within the list.
 pub place-within : {X : Type 0} (xs : List X) (i : ℕ) (x : X) → slice_get xs i ≡ Some x → i < length xs
 place-within [] i x at = cc
 place-within (y ∷ xs) zero x at = omega arith

@@ -29,7 +29,7 @@ rises : (a b id : ℕ) → a ≤ b → ordering_index (nat_cmp a id) ≤ orderin
 rises a b id le = grind (arith, nat_tests)
 
 module _ {I O : Type 0} where
-  -- Where the search answers a place, it has the id.
+  -- A place that the search finds has the id.
   pub place-found : (es : List (List ℕ × LiveView I O)) (i id : ℕ) → i < length es → ((d : List ℕ × LiveView I O) → nat_cmp (get_or es i d).1.id id ≡ Equal) → (k : List ℕ) × (l : LiveView I O) × (slice_get es i ≡ Some (k, l)) × (l.id ≡ id)
   place-found [] i id lt h = absurd (omega (arith, lt))
   place-found (e ∷ es) zero id lt h = (e.0, e.1, refl, equal_id e.1.id id (h e))

@@ -7,12 +7,12 @@ use Rattle.memo_core.specs.declared.event.KeepAnswer.TheVariants.{Found as Found
 use Rattle.memo_server.specs.declared.met.Asked.{Asked}
 use Rattle.memo_server.specs.declared.met.Asked.TheVariants.{Look, Keep}
 
--- The event where the entry is that of the call's input.
+-- The event if the entry is that of the call's input.
 abbrev pub same_event : Asked → ℕ → ℕ → List ℕ → ℕ → Event
 same_event Look caller run digest id = LookEvent caller run digest (HitAnswer id)
 same_event Keep caller run digest id = KeepEvent caller run digest (FoundAnswer id)
 
--- The event where the entry is another input's.
+-- The event if the entry is another input's.
 abbrev pub other_event : Asked → ℕ → ℕ → List ℕ → ℕ → Event
 other_event Look caller run digest id = LookEvent caller run digest (LookClashAnswer id)
 other_event Keep caller run digest id = KeepEvent caller run digest (KeepClashAnswer id)

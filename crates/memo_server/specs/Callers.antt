@@ -1,4 +1,4 @@
--- Whose the turns of a shard are, and what a caller's own turns tell.
+-- Whose turns the turns of a shard are, and what a caller's own turns say.
 use Rattle.std.specs.Prelude.{ℕ, ◌-◌, ◌==◌, Bool, false, List, Option, Some, None, IsSome}
 use Rattle.std.specs.List.{filter}
 use Rattle.memo_core.specs.declared.event.Event.{Event}
@@ -18,7 +18,7 @@ caller_of (Keep who run digest answer) = who
 caller_of (Release who i) = who
 caller_of (Sweep who horizon dropped) = who
 
--- The caller of a turn's event; an empty turn stands under no number.
+-- The caller of a turn's event; an empty turn is under no number.
 abbrev pub whose : Turn → Option ℕ
 whose (Made e) = Some (caller_of e)
 whose Empty = None
@@ -38,7 +38,7 @@ gives id (Keep who run digest (KeepClash i)) = false
 gives id (Release who i) = false
 gives id (Sweep who horizon dropped) = false
 
--- The event gives a pin of its caller on the id up.
+-- The event gives up a pin of its caller on the id.
 abbrev pub frees : ℕ → Event → Bool
 frees id (Look who run digest answer) = false
 frees id (Keep who run digest answer) = false

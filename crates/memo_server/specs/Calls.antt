@@ -1,4 +1,4 @@
--- What the calls of a shard answer, and what they make of it.
+-- What the calls of a shard return, and what they make of it.
 use Rattle.std.specs.Prelude.{◌≡◌, ◌≢◌, ℕ, ◌+◌, List, [], ◌∷◌, ◌++◌, filter, not, length, Some, None}
 use Rattle.memo_core.specs.declared.event.Event.{Event}
 use Rattle.memo_core.specs.declared.event.Event.TheVariants.{Look, Keep, Sweep}
@@ -36,7 +36,7 @@ module _ {I O : Type 0} where
     pub live : new.live ≡ at_live id f old.live
     pub next : new.next ≡ old.next
 
-  -- A carried entry is the shard's live one of the digest, and its out fits its input.
+  -- A carried entry is the shard's live entry of the digest, and its result fits its input.
   pub record IsLiveEntry (fits : I → O → Type 0) (digest_of : I → List ℕ) (digest : List ℕ) (s : EntryView I O) (shard : ShardView I O) : Type 0 where
     pub live : LiveView I O
     pub here : found digest shard.live ≡ Some live
@@ -44,13 +44,13 @@ module _ {I O : Type 0} where
     pub keyed : digest_of s.input ≡ digest
     pub made : fits s.input s.out
 
-  -- The call met the entry of its input, which the caller holds once more; or another's; or none.
+  -- The call met the entry of its input, which the caller holds once more; or that of another input; or none.
   abbrev pub Meets : {R : Type 0} → (I → O → Type 0) → (I → List ℕ) → ShardView I O → Asked → ℕ → ℕ → I → Meeting R I O → ShardView I O → Type 0
   Meets fits digest_of old asked caller run input (Same s) new = IsLiveEntry fits digest_of (digest_of input) s old × (s.input ≡ input) × AddsAt s.id (pinned_view caller run) (same_event asked caller run (digest_of input) s.id) old new
   Meets fits digest_of old asked caller run input (Other s) new = IsLiveEntry fits digest_of (digest_of input) s old × (s.input ≢ input) × AddsOnly (other_event asked caller run (digest_of input) s.id) old new
   Meets fits digest_of old asked caller run input Missing new = (found (digest_of input) old.live ≡ None) × (new ≡ old)
 
-  -- A new last entry, which the caller holds, of the input with an out that fits it.
+  -- A new last entry, which the caller holds, of the input with a result that fits it.
   pub record Stores (fits : I → O → Type 0) (digest : List ℕ) (caller run : ℕ) (input : I) (out : O) (s : EntryView I O) (old new : ShardView I O) : Type 0 where
     pub same : s ≡ entry_view old.next input out
     pub adds : Adds (Keep caller run digest (StoredAnswer s.id)) old new
@@ -59,19 +59,19 @@ module _ {I O : Type 0} where
     pub live : new.live ≡ old.live ++ (digest, live_view (entry_view old.next input copy) run (caller ∷ [])) ∷ []
     pub next : new.next ≡ old.next + 1
 
-  -- What a look answers, and the event that it adds.
+  -- What a look returns, and the event that it adds.
   abbrev pub LookGives : {R : Type 0} → (I → O → Type 0) → (I → List ℕ) → ShardView I O → ℕ → ℕ → I → ShardLook R I O → ShardView I O → Type 0
   LookGives fits digest_of old caller run input (Hit s) new = IsLiveEntry fits digest_of (digest_of input) s old × (s.input ≡ input) × AddsAt s.id (pinned_view caller run) (Look caller run (digest_of input) (HitAnswer s.id)) old new
   LookGives fits digest_of old caller run input Absent new = (found (digest_of input) old.live ≡ None) × AddsOnly (Look caller run (digest_of input) AbsentAnswer) old new
   LookGives fits digest_of old caller run input (Clash s) new = IsLiveEntry fits digest_of (digest_of input) s old × (s.input ≢ input) × AddsOnly (Look caller run (digest_of input) (ClashAnswer s.id)) old new
 
-  -- What a keep answers, and the event that it adds.
+  -- What a keep returns, and the event that it adds.
   abbrev pub KeepGives : {R : Type 0} → (I → O → Type 0) → (I → List ℕ) → ShardView I O → ℕ → ℕ → I → O → ShardKeep R I O → ShardView I O → Type 0
   KeepGives fits digest_of old caller run input out (Stored s) new = (found (digest_of input) old.live ≡ None) × Stores fits (digest_of input) caller run input out s old new
   KeepGives fits digest_of old caller run input out (Found s) new = IsLiveEntry fits digest_of (digest_of input) s old × (s.input ≡ input) × AddsAt s.id (pinned_view caller run) (Keep caller run (digest_of input) (FoundAnswer s.id)) old new
   KeepGives fits digest_of old caller run input out (KeepClash s i o) new = IsLiveEntry fits digest_of (digest_of input) s old × (s.input ≢ input) × (i ≡ input) × (o ≡ out) × AddsOnly (Keep caller run (digest_of input) (KeepClashAnswer s.id)) old new
 
-  -- What a sweep answers, and what it leaves.
+  -- What a sweep returns, and what it leaves.
   pub record SweepGives (caller horizon dropped : ℕ) (old new : ShardView I O) : Type 0 where
     pub adds : Adds (Sweep caller horizon dropped) old new
     pub live : new.live ≡ filter (λ e. not (is_stale horizon e.1)) old.live

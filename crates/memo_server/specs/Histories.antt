@@ -10,12 +10,12 @@ events [] = []
 events (Made e ∷ ts) = e ∷ events ts
 events (Empty ∷ ts) = events ts
 
--- So many empty turns.
+-- A number of empty turns.
 abbrev pub empties : ℕ → List Turn
 empties zero = []
 empties (suc n) = Empty ∷ empties n
 
--- The turns: so many empty ones, and then each event with its empty ones.
+-- The turns: a number of empty ones, then each event with the empty ones after it.
 abbrev pub turns_of : ℕ → List Event → List ℕ → List Turn
 turns_of n [] ms = empties n
 turns_of n (e ∷ es) [] = empties n ++ Made e ∷ []

@@ -1,4 +1,4 @@
--- What a shard is seen as, and what each shard keeps.
+-- The model of a shard, and what every shard keeps.
 use Rattle.std.specs.Prelude.{◌≡◌, ℕ, ◌≤◌, List, Some}
 use Rattle.memo_core.specs.declared.event.Event.{Event}
 use Rattle.memo_core.specs.Machine.{replayed}
@@ -12,8 +12,7 @@ pub record ShardView (I O : Type 0) : Type 0 where
   pub history : List Event
   pub turns : List Turn
 
--- The history replays to the entries, each stands at its input's digest, and there is
--- room to release every pin.
+-- The history replays to the entries, each is at its input's digest, and there is room to release every pin.
 pub record ShardFits {I O : Type 0} (digest_of : I → List ℕ) (pins spare : ℕ) (s : ShardView I O) : Type 0 where
   pub replays : replayed s.history ≡ Some (core_state s.live s.next)
   pub keys : AreKeyed digest_of s.live

@@ -1,4 +1,4 @@
--- What a turn on a shard may ask, and what it answers.
+-- What a turn on a shard may ask for, and what it leaves.
 use Rattle.std.specs.Prelude.{◌≡◌, ◌≢◌, ℕ, ◌<◌, ◌⊎◌, List, [], ◌∷◌, ◌++◌, Some, None, Ok, Err}
 use Rattle.memo_core.specs.declared.event.Event.TheVariants.{Look as LookEvent, Keep as KeepEvent, Release as ReleaseEvent, Sweep as SweepEvent}
 use Rattle.memo_core.specs.declared.event.LookAnswer.TheVariants.{Hit as HitAnswer, Absent as AbsentAnswer, Clash as ClashAnswer}
@@ -18,7 +18,7 @@ use Rattle.memo_server.specs.Histories.{events}
 use Rattle.memo_server.specs.Callers.{own_held, whose}
 
 module _ {R I O : Type 0} (fits : I → O → Type 0) where
-  -- What one may ask under whose number these turns stand.
+  -- What a caller with these turns under its number may ask for.
   abbrev pub May : List Turn → ShardOp R I O → Type 0
   May ts (Look run input) = Unit {0}
   May ts (Keep run input out) = fits input out
@@ -38,13 +38,13 @@ module _ {R I O : Type 0} (fits : I → O → Type 0) where
     KeepAnswered e who run input out (Found s) = (e ≡ Made (KeepEvent who run (digest_of input) (FoundAnswer s.id))) × (s.input ≡ input) × fits s.input s.out
     KeepAnswered e who run input out (KeepClash s i o) = (e ≡ Made (KeepEvent who run (digest_of input) (KeepClashAnswer s.id))) × (i ≡ input) × (o ≡ out) × (s.input ≢ input) × (digest_of s.input ≡ digest_of input) × fits s.input s.out
 
-    -- The turn of a look, which is empty at want of memory.
+    -- The turn of a look, which is empty out of memory.
     abbrev pub ToLook : Turn → ℕ → I → ShardReply R I O → Type 0
     ToLook e run input (LookReply (Ok answer)) = (who : ℕ) × LookAnswered e who run input answer
     ToLook e run input (LookReply (Err m)) = e ≡ Empty
     ToLook e run input _ = ⊥
 
-    -- The turn of a keep, which is empty at want of memory and hands everything back.
+    -- The turn of a keep, which is empty out of memory and hands everything back.
     abbrev pub ToKeep : Turn → ℕ → I → O → ShardReply R I O → Type 0
     ToKeep e run input out (KeepReply (Ok answer)) = (who : ℕ) × KeepAnswered e who run input out answer
     ToKeep e run input out (KeepReply (Err back)) = (e ≡ Empty) × (back.1 ≡ input) × (back.2 ≡ out)
@@ -55,7 +55,7 @@ module _ {R I O : Type 0} (fits : I → O → Type 0) where
     ToRelease e id ReleaseReply = (who : ℕ) × (e ≡ Made (ReleaseEvent who id))
     ToRelease e id _ = ⊥
 
-    -- The turn of a sweep, which is empty at want of memory.
+    -- The turn of a sweep, which is empty out of memory.
     abbrev pub ToSweep : Turn → ℕ → ShardReply R I O → Type 0
     ToSweep e horizon (SweepReply (Ok dropped)) = (who : ℕ) × (e ≡ Made (SweepEvent who horizon dropped))
     ToSweep e horizon (SweepReply (Err m)) = e ≡ Empty
@@ -68,6 +68,6 @@ module _ {R I O : Type 0} (fits : I → O → Type 0) where
     AnswersOp e (Release id) reply = ToRelease e id reply
     AnswersOp e (Sweep horizon) reply = ToSweep e horizon reply
 
-    -- A play adds one turn, its caller's or nobody's.
+    -- A play adds one turn, of its caller or of nobody.
     abbrev pub Plays : ℕ → ShardOp R I O → ShardReply R I O → ShardView I O → ShardView I O → Type 0
     Plays who op reply old new = (e : Turn) × (new.turns ≡ old.turns ++ e ∷ []) × AnswersOp e op reply × ((whose e ≡ Some who) ⊎ (whose e ≡ None))

@@ -1,4 +1,4 @@
--- What a shard's entries are seen as.
+-- The model of a shard's entries.
 use Rattle.std.specs.Prelude.{◌≡◌, ℕ, ◌+◌, ◌<◌, zero, suc, max, List, [], ◌∷◌, ◌++◌, map, length, Bool, ◌&&◌, ◌==◌, nat_lt, if◌then◌else◌, Option, Some, None, slice_get}
 use Rattle.std.specs.Str.{bytes_eq}
 use Rattle.std.specs.List.{list_any}
@@ -65,7 +65,7 @@ module _ {I O : Type 0} where
   abbrev pub found : List ℕ → List (List ℕ × LiveView I O) → Option (LiveView I O)
   found digest live = lookup (bytes_eq digest) live
 
-  -- A place is that of the digest's entry, and there is none where no entry has the digest.
+  -- A place is that of the digest's entry, and there is none if no entry has the digest.
   abbrev pub Finds : List ℕ → List (List ℕ × LiveView I O) → Option ℕ → Type 0
   Finds digest live None = found digest live ≡ None
   Finds digest live (Some i) = (l : LiveView I O) × (slice_get live i ≡ Some (digest, l)) × (found digest live ≡ Some l)
@@ -74,7 +74,7 @@ module _ {I O : Type 0} where
   abbrev pub HasRisingIds : List (List ℕ × LiveView I O) → Type 0
   HasRisingIds live = (i j : ℕ) (k q : List ℕ) (a b : LiveView I O) → slice_get live i ≡ Some (k, a) → slice_get live j ≡ Some (q, b) → i < j → a.id < b.id
 
-  -- Each entry stands at its input's digest.
+  -- Each entry is at its input's digest.
   abbrev pub AreKeyed : (I → List ℕ) → List (List ℕ × LiveView I O) → Type 0
   AreKeyed digest_of [] = Unit {0}
   AreKeyed digest_of (e ∷ es) = (digest_of e.1.input ≡ e.0) × AreKeyed digest_of es

@@ -1,4 +1,4 @@
-//! What a shard answers to a look and to a keep, with the entry that it speaks of.
+//! The answers of a shard to a look and to a keep, with the entry that they are about.
 use crate::recipe::Recipe;
 use crate::shared_entry::SharedEntry;
 
@@ -9,7 +9,7 @@ pub enum ShardLook<R: Recipe> {
     Hit(SharedEntry<R>),
     /// No live entry has the input's digest.
     Absent,
-    /// The entry that has the digest, whose input is another.
+    /// The entry that has the digest, but another input.
     Clash(SharedEntry<R>),
 }
 
@@ -18,8 +18,8 @@ pub enum ShardLook<R: Recipe> {
 pub enum ShardKeep<R: Recipe> {
     /// The new entry, on which the caller has a pin.
     Stored(SharedEntry<R>),
-    /// The entry that had this input already, on which the caller has one more pin.
+    /// The entry that has this input already, on which the caller has one more pin.
     Found(SharedEntry<R>),
-    /// The entry that has the digest, whose input is another, and what was handed in.
+    /// The entry that has the digest, but another input; and the input and the result that were handed in.
     Clash(SharedEntry<R>, R::In, R::Out),
 }

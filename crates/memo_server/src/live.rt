@@ -1,4 +1,4 @@
-//! A live entry of a shard: its share of the entry, the last run that used it, and who holds it.
+//! A live entry of a shard: its share of the entry, the last run that used it, and the callers that hold it.
 ghost use Rattle.std.specs.Prelude.{◌≡◌, OnOk, OnErr};
 
 use crate::recipe::Recipe;
@@ -7,7 +7,7 @@ use memo_core::Pins;
 use std::alloc::AllocError;
 use std::marker::Model;
 
-/// A live entry: the shared one, the last run that used it, and who holds it.
+/// A live entry: the shared entry, the last run that used it, and the callers that hold it.
 #[derive(Drop)]
 pub struct Live<R: Recipe> {
     pub shared: SharedEntry<R>,
@@ -26,7 +26,7 @@ impl<R: Recipe> Model for Live<R> {
 impl<R: Recipe> Live<R> {
     ghost use Rattle.memo_server.specs.Views.{LiveView, live_view, pinned_view, released_view, has_pin_view, is_stale};
 
-    /// An entry in use since this run.
+    /// An entry that this run is the first to use.
     pub fn new(shared: SharedEntry<R>, run: u64, pins: Pins) -> Live<R>
         ensures { result ≡ live_view shared run pins }
     {
@@ -44,7 +44,7 @@ impl<R: Recipe> Live<R> {
         self.shared.id()
     }
 
-    /// One more pin of the caller, in this run. Want of memory changes nothing.
+    /// Adds a pin of the caller, in this run. Out of memory, nothing changes.
     pub fn pin(&mut self, caller: u64, run: u64) -> Result<(), AllocError>
         ensures ok { OnOk result (self.new ≡ pinned_view caller run self.old) }
         ensures err { OnErr result (self.new ≡ self.old) }
@@ -54,7 +54,7 @@ impl<R: Recipe> Live<R> {
         Ok(())
     }
 
-    /// The caller's first pin goes.
+    /// Removes the caller's first pin.
     pub fn release(&mut self, caller: u64)
         ensures { self.new ≡ released_view caller self.old }
     {

@@ -1,4 +1,5 @@
-//! The live entries of a shard, found by digest in a map and by id in a binary search, since they stand in the order of their ids.
+//! The live entries of a shard, found by digest in a map and by id in a binary search, since they are in the order of
+//! their ids.
 ghost use Rattle.std.specs.Prelude.{◌≡◌, ℕ, ◌<◌, ◌+◌, ◌++◌, ◌∷◌, [], List, OnOk, OnErr, IfOk, Some, None, length, slice_get, filter, not};
 ghost use Rattle.std.specs.List.{list_any};
 
@@ -70,7 +71,7 @@ impl<R: Recipe> LiveEntries<R> {
         }
     }
 
-    /// One more pin of the caller on the entry at the place, in this run. Want of memory changes nothing.
+    /// Adds a pin of the caller on the entry at the place, in this run. Out of memory, nothing changes.
     pub fn pin(&mut self, place: usize, caller: u64, run: u64) -> Result<(), AllocError>
         requires { place < length self.old }
         ensures ok { OnOk result (self.new ≡ update_at place (pinned_view caller run) self.old) }
@@ -80,7 +81,7 @@ impl<R: Recipe> LiveEntries<R> {
         entry.pin(caller, run)
     }
 
-    /// The caller's first pin on the entry at the place goes.
+    /// Removes the caller's first pin on the entry at the place.
     pub fn release(&mut self, place: usize, caller: u64)
         requires { place < length self.old }
         ensures { self.new ≡ update_at place (released_view caller) self.old }
@@ -89,7 +90,7 @@ impl<R: Recipe> LiveEntries<R> {
         entry.release(caller);
     }
 
-    /// A last entry. Want of memory changes nothing.
+    /// Adds an entry at the end. Out of memory, nothing changes.
     pub fn push(&mut self, digest: [u8; 32], entry: Live<R>) -> Result<(), AllocError>
         requires { found digest self.old ≡ None }
         ensures ok { OnOk result (self.new ≡ self.old ++ (digest, entry) ∷ []) }
@@ -101,21 +102,21 @@ impl<R: Recipe> LiveEntries<R> {
         }
     }
 
-    /// Takes the last entry back.
+    /// Removes the last entry.
     pub fn pop(&mut self)
         ensures { (es : List (List ℕ × LiveView R.In R.Out)) (e : List ℕ × LiveView R.In R.Out) → self.old ≡ es ++ e ∷ [] → self.new ≡ es }
     {
         self.map.pop();
     }
 
-    /// The entries that are stale at the horizon go, the others keep their order.
+    /// Drops the entries that are stale at the horizon; the others keep their order.
     pub fn sweep(&mut self, horizon: u64)
         ensures { self.new ≡ filter (λ e. not (is_stale horizon e.1)) self.old }
     {
         self.map.retain(|_, entry| !entry.is_stale(horizon));
     }
 
-    /// The place of the entry of the id. Binary search.
+    /// The place of the entry of the id, by a binary search.
     pub fn place_of(&self, id: u64) -> usize
         requires rising { HasRisingIds self.now }
         requires live { (i : ℕ) × (k : List ℕ) × (l : LiveView R.In R.Out) × (slice_get self.now i ≡ Some (k, l)) × (l.id ≡ id) }

@@ -47,7 +47,7 @@ impl Log {
         &self.events
     }
 
-    /// Takes room for so many events: those that are promised, and some more.
+    /// Takes room for events: those that are promised, and `more`.
     pub fn reserve(&mut self, promised: usize, more: usize) -> Result<(), AllocError>
         ensures same { (self.new.history ≡ self.old.history) × (self.new.turns ≡ self.old.turns) × (self.old.spare ≤ self.new.spare) }
         ensures ok { OnOk result (promised + more ≤ self.new.spare) }
@@ -59,7 +59,7 @@ impl Log {
         Ok(())
     }
 
-    /// One more event.
+    /// Adds an event.
     pub fn add(&mut self, event: Event)
         requires { 0 < self.old.spare }
         ensures { (self.new.history ≡ self.old.history ++ event ∷ []) × (self.new.turns ≡ self.old.turns ++ Made event ∷ []) × (self.new.spare + 1 ≡ self.old.spare) }
@@ -68,7 +68,7 @@ impl Log {
         self.after.push_reserved(0);
     }
 
-    /// One more empty turn. Takes no memory.
+    /// Adds an empty turn. It takes no memory.
     pub fn note_empty(&mut self)
         requires { length self.old.turns < 2 ^ 63 }
         ensures { (self.new.history ≡ self.old.history) × (self.new.turns ≡ self.old.turns ++ Empty ∷ []) × (self.new.spare ≡ self.old.spare) }

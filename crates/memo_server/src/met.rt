@@ -1,4 +1,5 @@
-//! What a shard has for an input: an entry of the same input, one of another with its digest, or none; and which call asks.
+//! What a shard has for an input: the entry of this input, the entry of another input with its digest, or none; and
+//! which call asks.
 ghost use Rattle.std.specs.Prelude.{◌≡◌};
 
 use crate::recipe::Recipe;
@@ -8,15 +9,15 @@ use memo_core::{Event, KeepAnswer, LookAnswer};
 /// The entry that an input meets in a shard.
 #[derive(Drop)]
 pub enum Meeting<R: Recipe> {
-    /// Its own.
+    /// The entry of the input.
     Same(SharedEntry<R>),
-    /// The one that has the input's digest, with another input.
+    /// The entry that has the input's digest, but another input.
     Other(SharedEntry<R>),
-    /// None.
+    /// No entry.
     Missing,
 }
 
-/// The call that meets an entry, which names the event.
+/// The call that meets an entry, which decides the event.
 #[derive(Clone, Copy)]
 pub enum Asked {
     Look,

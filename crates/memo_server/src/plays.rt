@@ -88,7 +88,7 @@ impl<R: Recipe> Turns for Shard<R> {
             ShardOp::Release { id } => self.play_release(who, id),
             ShardOp::Sweep { horizon } => self.play_sweep(who, horizon),
         };
-        // The history is named for its clauses: it replays to the entries.
+        // The call gives the prover the clauses of the history: it replays to the entries.
         let _ = self.history();
         reply
     }

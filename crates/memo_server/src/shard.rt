@@ -15,9 +15,9 @@ use memo_core::{Event, KeepAnswer, LookAnswer, Pins};
 use std::alloc::{AllocError, Global};
 use std::marker::Model;
 
-/// Entries by digest in the order of making, and the history that made them. Each call adds the event that its
-/// answer names, and the history replays to the entries. Room for the release of every pin is taken before
-/// the pin is given, so a release takes no memory.
+/// Live entries by digest, in the order of making, and the history that made them. Each call adds the event that its
+/// answer names, and the history replays to the entries. Room for the release of every pin is taken before the pin is
+/// given, so a release takes no memory.
 #[derive(Drop)]
 pub struct Shard<R: Recipe> {
     alloc: Global,
@@ -66,7 +66,7 @@ impl<R: Recipe> Shard<R> {
         self.log.events()
     }
 
-    /// The id that the next stored entry gets. `keep` requires that it is below the last number of its type.
+    /// The id of the next stored entry. `keep` requires that it is below 2^64 - 1.
     pub fn next(&self) -> u64
         ensures { result ≡ self.now.next }
     {
@@ -80,8 +80,8 @@ impl<R: Recipe> Shard<R> {
         self.live.has_pin(caller, id)
     }
 
-    /// Looks for the entry of an input. `Hit` gives the caller one more pin on it and raises its last run to `run`.
-    /// One search by digest, one comparison of inputs. Fails only for want of memory, which changes nothing.
+    /// Looks for the entry of an input. `Hit` gives the caller one more pin on it and raises its last run to `run`. One
+    /// search by digest and one comparison of inputs. It fails only out of memory, and then nothing changes.
     pub fn look(&mut self, caller: u64, run: u64, input: R::In) -> Result<ShardLook<R>, AllocError>
         ensures answer { IfOk result (λ answer. LookGives R.fits R.digest_of self.old caller run input answer self.new) }
         ensures err { OnErr result (self.new ≡ self.old) }
@@ -98,9 +98,8 @@ impl<R: Recipe> Shard<R> {
         }
     }
 
-    /// Keeps an out for its input, where no live entry has the input's digest. The caller has a pin on what is
-    /// `Stored` or `Found`. One insertion. Fails only for want of memory, which changes nothing and hands the
-    /// input and the out back.
+    /// Keeps a result for its input, if no live entry has the input's digest. The caller gets a pin on what is `Stored`
+    /// or `Found`. One insertion. It fails only out of memory; then nothing changes, and input and result come back.
     pub fn keep(
         &mut self,
         caller: u64,
@@ -126,7 +125,7 @@ impl<R: Recipe> Shard<R> {
         }
     }
 
-    /// Gives up one pin of the caller. Binary search by id. Takes no memory.
+    /// Releases one pin of the caller. A binary search by id; it takes no memory.
     pub fn release(&mut self, caller: u64, id: u64)
         requires { list_any (has_pin caller id) (core_entries self.old.live) ≡ true }
         ensures { AddsAt id (released_view caller) (Event.Release caller id) self.old self.new }
@@ -137,8 +136,8 @@ impl<R: Recipe> Shard<R> {
         self.log.add(Event::Release { caller, id });
     }
 
-    /// Drops the entries without pins that were last used below the horizon, and answers how many. One walk.
-    /// Fails only for want of memory, which changes nothing.
+    /// Drops the entries without pins that were last used below the horizon, and returns how many. One walk. It fails
+    /// only out of memory, and then nothing changes.
     pub fn sweep(&mut self, caller: u64, horizon: u64) -> Result<u64, AllocError>
         ensures answer { IfOk result (λ dropped. SweepGives caller horizon dropped self.old self.new) }
         ensures err { OnErr result (self.new ≡ self.old) }
@@ -155,7 +154,7 @@ impl<R: Recipe> Shard<R> {
         Ok(dropped)
     }
 
-    // A turn that met want of memory. Takes no memory.
+    // A turn that ran out of memory. Takes no memory.
     pub(crate) fn note_empty(&mut self)
         requires { length self.old.turns < 2 ^ 63 }
         ensures turns { self.new.turns ≡ self.old.turns ++ Empty ∷ [] }
@@ -164,7 +163,7 @@ impl<R: Recipe> Shard<R> {
         self.log.note_empty();
     }
 
-    // Meets the entry that has the digest, with the event of what was asked, or none and without an event.
+    // Meets the entry that has the digest and adds the event of the call; without such an entry it adds none.
     fn meet(
         &mut self,
         asked: Asked,
@@ -209,7 +208,7 @@ impl<R: Recipe> Shard<R> {
         Ok(())
     }
 
-    // A new entry. The shard's own is a copy, so that want of memory can hand the input and the out back.
+    // Stores a new entry. The shard keeps a copy, so that out of memory it can hand the input and the result back.
     fn store(
         &mut self,
         caller: u64,

@@ -1,4 +1,4 @@
-//! An entry that several hold: its id, its input and its out, made once and shared by counted pointers.
+//! An entry that several hold: its id, its input and its result, made once and shared by reference counts.
 ghost use Rattle.std.specs.Prelude.{◌≡◌, IfOk, IfErr};
 
 use crate::recipe::Recipe;
@@ -24,8 +24,7 @@ impl<R: Recipe> Model for Made<R> {
     ghost invariant = { λ m. R.fits m.input m.out };
 }
 
-/// An entry: an input, a result that fits it, and the number that the shard gave it. To share it adds one
-/// to a count.
+/// An entry: an input, a result that fits it, and the number that the shard gave it. Sharing it adds one to a count.
 #[derive(Drop)]
 pub struct SharedEntry<R: Recipe> {
     made: Arc<Made<R>>,
@@ -43,7 +42,7 @@ impl<R: Recipe> Model for SharedEntry<R> {
 impl<R: Recipe> SharedEntry<R> {
     ghost use Rattle.memo_server.specs.Views.{EntryView, entry_view};
 
-    // A new entry; want of memory hands the input and the out back.
+    // A new entry; out of memory, input and result come back.
     pub(crate) fn new(
         alloc: Global,
         id: u64,
@@ -72,7 +71,7 @@ impl<R: Recipe> SharedEntry<R> {
         made.id
     }
 
-    /// What the entry is looked up by.
+    /// The input by which the entry is looked up.
     pub fn input(&self) -> &R::In
         ensures { result.now ≡ self.now.input }
     {
@@ -80,7 +79,7 @@ impl<R: Recipe> SharedEntry<R> {
         &made.input
     }
 
-    /// The result, the definition's value of the input.
+    /// The result, which fits the input.
     pub fn out(&self) -> &R::Out
         ensures value { result.now ≡ self.now.out }
         ensures fits { R.fits self.now.input self.now.out }
@@ -89,7 +88,7 @@ impl<R: Recipe> SharedEntry<R> {
         &made.out
     }
 
-    /// The same entry once more. Fails only where the count of the `Arc` can't rise.
+    /// Another owner of the same entry. It fails only if the count of the `Arc` cannot increase.
     pub fn share(&self) -> Result<SharedEntry<R>, AllocError>
         ensures same { IfOk result (λ s. s ≡ self.now) }
         ensures fits { R.fits self.now.input self.now.out }

@@ -1,4 +1,4 @@
-//! One shard on one thread: each call's answer, its history replayed, and digests that do not tell inputs apart.
+//! One shard on one thread: each call's answer, the replayed history, and unequal inputs with equal digests.
 ghost use Rattle.std.specs.Prelude.{◌≡◌, ◌*◌, ◌%◌, replicate};
 
 use super::*;
@@ -7,7 +7,7 @@ use std::alloc::{AllocError, Global};
 use std::test::Fail;
 use turn_lock::Turns;
 
-// Twice a number, with a digest that tells numbers below 16 apart, and not 1 from 17.
+// Twice a number. Numbers below 16 have different digests; 1 and 17 have the same.
 #[derive(Drop)]
 struct Twice;
 
@@ -37,7 +37,7 @@ impl Recipe for Twice {
     }
 }
 
-// The id of the entry that is stored for an input, twice which is handed in.
+// The id of the entry that is stored for an input, with twice that as its result.
 fn stored_id(shard: &mut Shard<Twice>, caller: u64, run: u64, input: u8) -> Option<u64> {
     if shard.next() == u64::MAX || input > 100 {
         return None;
@@ -83,7 +83,7 @@ fn is_absent(shard: &mut Shard<Twice>, run: u64, input: u8) -> Result<bool, Allo
     Ok(matches!(&answer, ShardLook::Absent))
 }
 
-// Releases a pin of the caller, and answers whether it had one.
+// Releases a pin of the caller, and returns whether it had one.
 fn gives_up(shard: &mut Shard<Twice>, caller: u64, id: u64) -> bool {
     if !shard.has_pin(caller, id) {
         return false;

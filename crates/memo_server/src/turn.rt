@@ -6,6 +6,6 @@ use memo_core::Event;
 pub enum Turn {
     /// The event of the turn's call.
     Made(Event),
-    /// The call met want of memory.
+    /// The call ran out of memory.
     Empty,
 }

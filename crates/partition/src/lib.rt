@@ -1,11 +1,11 @@
-//! Which part a key belongs to: [`part_of`] hashes its bytes with the 32-bit FNV-1a, after Fowler, Noll and Vo, modulo
-//! the number of parts. One pass over the bytes; it takes no memory.
+//! The part of a key: [`part_of`] is the 32-bit FNV-1a hash of its bytes, by Fowler, Noll and Vo, modulo the number of
+//! parts. One pass over the bytes; it takes no memory.
 #![tactic(auto)]
 
 ghost use Rattle.std.specs.Prelude.{◌≡◌, ◌≤◌, ◌<◌};
 ghost use Rattle.partition.specs.Parts.{hash_of, part_number};
 
-/// The part of a key among `parts`, from 0.
+/// The part of a key, from 0 to `parts` - 1. One pass over the key.
 pub fn part_of(key: &[u8], parts: u32) -> u32
     requires { 1 ≤ parts }
     ensures part { result ≡ part_number key.now parts }

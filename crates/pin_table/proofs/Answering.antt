@@ -1,4 +1,4 @@
--- What each answer of a call makes of what its caller holds, and of the pins that are covered.
+-- What each answer changes in what the caller holds, and in the pins that are covered.
 use Rattle.std.proofs.Common.{◌≡◌, ℕ, ◌+◌, ◌<◌, Bool, true, false, cond, ◌&&◌, ◌==◌, List, [], ◌∷◌, ◌++◌, length, refl, sym, ap, subst, ◌∙◌, arith, append-nil}
 use Rattle.std.proofs.lemmas.Bool.Decides.{nat_tests}
 use Rattle.std.proofs.lemmas.Cmp.{nat_list_eq_equiv}
@@ -62,7 +62,7 @@ got-one n e v w p fits numbered one free at = record {
   held = λ i id. let x = move n p.shard e v w fits numbered at i id in let a = nothing_moves (p.shard == i) (frees id e) (free id) in let b = ap (λ (c : Bool). cond {A = ℕ} ((p.shard == i) && c) 1 0) (one id) in omega (arith, x, a, b);
 }
 
--- A turn in which memory was wanting.
+-- A turn that ran out of memory.
 pub got-missed : (n s : ℕ) (v w : CallerView) → AtShard (Missed n) s v w → Got v [] w
 got-missed n s v w at = record {
   later = later-missed n s v w at;
@@ -76,7 +76,7 @@ got-worn ticket s v w at = record {
   held = λ i id. let x : held_at i id w ≡ held_at i id v = ap (λ (m : ℕ). held m id (known_at i w).mine) (ap (λ (c : CallerView). c.number) at.same) ∙ ap (held v.number id) (each-shard (WornOut ticket) s v w at (λ k j. j.mine ≡ k.mine) (λ k. refl) (λ k j g. g.mine) i) in omega (arith, x);
 }
 
--- A call that had no answer.
+-- A call that failed.
 pub faults-got : (f : MemoFault) (s : ℕ) (v w : CallerView) → Faults f s v w → Got v [] w
 faults-got (Worn ticket) s v w at = got-worn ticket s v w at
 faults-got Mem s v w at = got-missed v.number s v w at
@@ -101,7 +101,7 @@ releases v w p ps fits at =
       exact = λ i _ id. let x = h i id in omega (arith, x);
     }
 
--- A pin that a worn lock keeps from being released is let go.
+-- A pin that a worn lock does not release is dropped.
 pub lets-go : (ticket : ℕ) (v w : CallerView) (p : PinName) (ps : List PinName) → AtShard (WornOut ticket) p.shard v w → Balanced v (p ∷ ps) w ps
 lets-go ticket v w p ps at =
     let got = got-worn ticket p.shard v w at in
@@ -137,7 +137,7 @@ same-pin id digest = let a : (id == id) ≡ true = grind (arith, nat_tests) in r
 -- What an answer got, and that it was given.
 module _ (v w : CallerView) (known : CallerFits v) where
   module _ {I O : Type 0} (digest_of : I → List ℕ) where
-    -- The pin of an answer, which stands in its shard and was given by its event.
+    -- The pin of an answer, which is in its shard and was given by its event.
     one-got : (e : Event) (p : PinView I O) (input : I) → p.caller ≡ v.number → p.shard ≡ shard_at (digest_of input) (length v.locks) → p.input ≡ input → ((id : ℕ) → gives id e ≡ (p.id == id)) → ((id : ℕ) → frees id e ≡ false) → gave p.id (digest_of input) e ≡ true → AtShard (Gained v.number e) (shard_at (digest_of input) (length v.locks)) v w
         → Got v (name_of digest_of p ∷ []) w × AreGiven w (name_of digest_of p ∷ [])
     one-got e p input own place same one free given at =
@@ -151,7 +151,7 @@ module _ (v w : CallerView) (known : CallerFits v) where
   none-got e s none free at = (got-quiet v.number s e v w known refl none free at, tt)
 
   module _ {R I O : Type 0} (fits : I → O → Type 0) (digest_of : I → List ℕ) where
-    -- A look, whatever it answered.
+    -- A look, whatever it returned.
     pub looks-got : (run : ℕ) (input : I) (a : Looked R I O) → Looks fits digest_of run input a v w → Got v (looked_pins digest_of a) w × AreGiven w (looked_pins digest_of a)
     looks-got run input (Hit p) h =
         let s = shard_at (digest_of input) (length v.locks) in
@@ -163,7 +163,7 @@ module _ (v w : CallerView) (known : CallerFits v) where
         none-got (Look v.number run (digest_of input) (ClashAnswer e.id)) s (λ id. refl) (λ id. refl)
         (at-map (ClashAs fits digest_of v.number run input e) (Gained v.number (Look v.number run (digest_of input) (ClashAnswer e.id))) s v w (λ k j t. t.3) h)
 
-    -- A keep, whatever it answered.
+    -- A keep, whatever it returned.
     pub keeps-got : (run : ℕ) (input : I) (out : O) (a : Kept R I O) → Keeps fits digest_of run input out a v w → Got v (kept_pins digest_of a) w × AreGiven w (kept_pins digest_of a)
     keeps-got run input out (Stored p) h =
         let s = shard_at (digest_of input) (length v.locks) in
@@ -178,7 +178,7 @@ module _ (v w : CallerView) (known : CallerFits v) where
         none-got (Keep v.number run (digest_of input) (KeepClashAnswer e.id)) s (λ id. refl) (λ id. refl)
         (at-map (KeepClashAs fits digest_of v.number run input out e i o) (Gained v.number (Keep v.number run (digest_of input) (KeepClashAnswer e.id))) s v w (λ k j t. t.5) h)
 
--- What is got and given is covered beside the pins that were.
+-- New pins that were given are covered in addition to those before.
 pub got-covered : (v w : CallerView) (ps qs : List PinName) → Covered v ps → Got v qs w × AreGiven w qs → Balanced v ps w (ps ++ qs) × Covered w (ps ++ qs)
 got-covered v w ps qs covered h =
     let b = got-balanced v w ps qs h.0 in
@@ -191,7 +191,7 @@ module _ (v w : CallerView) (known : CallerFits v) (ps : List PinName) (covered 
   pub keeps : (run : ℕ) (input : I) (out : O) (a : Kept R I O) → Keeps fits digest_of run input out a v w → Balanced v ps w (ps ++ kept_pins digest_of a) × Covered w (ps ++ kept_pins digest_of a)
   keeps run input out a h = got-covered v w ps (kept_pins digest_of a) covered (keeps-got v w known fits digest_of run input out a h)
 
--- The last pin may be released, and the others stay covered when it was.
+-- The last pin may be released, and the others then stay covered.
 module _ (v w : CallerView) (os : List PinName) (p : PinName) (covered : Covered v (os ++ p ∷ [])) where
   pub last-own : p.caller ≡ v.number
   last-own = (given-right v os (p ∷ []) covered.given).0.caller

@@ -1,4 +1,4 @@
--- How pins stay covered and backed: by one call after another, and beside pins that stay.
+-- How pins stay covered and backed: over one call after another, and in addition to pins that stay.
 use Rattle.std.proofs.Common.{◌≡◌, ℕ, ◌+◌, ◌^◌, ◌<◌, ◌≤◌, Bool, true, false, cond, ◌&&◌, ◌||◌, ◌==◌, List, [], ◌∷◌, ◌++◌, length, refl, sym, ap, subst, ◌∙◌, arith, append_assoc, append-nil}
 use lib.ListN.{length-set}
 use lib.Seq.{get_or-set_same, get_or-set_other}
@@ -24,7 +24,7 @@ module _ (Goes : ShardKnown → ShardKnown → Type 0) (s : ℕ) (v w : CallerVi
   pub goes-there : Goes (known_at s v) (known_at s w)
   goes-there = subst (λ (k : ShardKnown). Goes (known_at s v) k) (sym known-there) at.goes
 
-  -- A fact of each shard, once it is known of the one.
+  -- A fact of each shard, once it is known of the one that changed.
   pub each-shard : (P : ShardKnown → ShardKnown → Type 0) → ((k : ShardKnown) → P k k) → ((k j : ShardKnown) → Goes k j → P k j) → (i : ℕ) → P (known_at i v) (known_at i w)
   each-shard P same goes i = place_case (i == s) refl
     where
@@ -86,7 +86,7 @@ balanced-then u v w ps qs rs a b = record {
   exact = λ s shown id. let x = a.exact s (b.later.shown s shown) id in let y = b.exact s shown id in omega (arith, x, y);
 }
 
--- Beside pins that stay where they are.
+-- In addition to pins that stay.
 pub balanced-beside : (v w : CallerView) (os ps qs : List PinName) → Balanced v ps w qs → Balanced v (os ++ ps) w (os ++ qs)
 balanced-beside v w os ps qs a = record {
   later = a.later;
@@ -137,7 +137,7 @@ got-same v = record { later = later-same v; held = λ s id. omega arith }
 pub got-order : (v w : CallerView) (ps qs : List PinName) → ((s id : ℕ) → count s id ps ≡ count s id qs) → Got v ps w → Got v qs w
 got-order v w ps qs same a = record { later = a.later; held = λ s id. let x = a.held s id in let y = same s id in omega (arith, x, y) }
 
--- What is got stands beside the pins that were.
+-- New pins are in addition to those before.
 pub got-balanced : (v w : CallerView) (ps qs : List PinName) → Got v qs w → Balanced v ps w (ps ++ qs)
 got-balanced v w ps qs a = record {
   later = a.later;
@@ -242,7 +242,7 @@ backed-order v ps qs same given b = record {
   exact = λ s shown id. b.exact s shown id ∙ same s id;
 }
 
--- Pins that were got are backed beside those that were.
+-- New pins are backed in addition to those before.
 pub backed-got : (v w : CallerView) (ps qs : List PinName) → Backed v ps → Got v qs w → AreGiven w qs → Backed w (ps ++ qs)
 backed-got v w ps qs b a given = backed-then v w ps (ps ++ qs) b (got-balanced v w ps qs a) (given-append w ps qs (all-given-later v w ps a.later b.covered.given) given)
 

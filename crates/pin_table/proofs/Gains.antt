@@ -1,4 +1,4 @@
--- What a turn of a pass is to what its caller knows.
+-- What a turn of a pass adds to what its caller knows.
 use Rattle.std.proofs.Common.{◌≡◌, ℕ, ◌^◌, ◌<◌, ◌≤◌, ◌⊎◌, inl, inr, Bool, true, false, cond, nat_lt, ◌==◌, List, [], ◌∷◌, ◌++◌, Option, Some, None, IsSome, refl, sym, ap, subst, ◌∙◌, arith, append-nil}
 use Rattle.std.proofs.lemmas.Bool.Decides.{nat_tests}
 use Rattle.std.specs.Option.{option_and_then}
@@ -53,7 +53,7 @@ module _ {O P : Type 0} (answers : Turn → O → P → Type 0) (op : O) (reply 
   mine-is : (e : Turn) → p.entry ≡ e → events w.mine ≡ events v.mine ++ events (under whose v.number (e ∷ []))
   mine-is e is = ap events p.mine ∙ (events-append v.mine (under whose v.number (p.entry ∷ [])) ∙ ap (λ x. events v.mine ++ events (under whose v.number (x ∷ []))) is)
 
-  -- A turn that made an event, or met want of memory.
+  -- A turn that made an event, or ran out of memory.
   pub went : (e : Turn) → p.entry ≡ e → Went n e (known_of v) (known_of w)
   went (Made ev) is =
       let seen = seen-is (Made ev) is in
@@ -81,7 +81,7 @@ module _ {O P : Type 0} (answers : Turn → O → P → Type 0) (op : O) (reply 
     shown = same-shown v w p.read p.grows;
   }
 
--- A refused turn leaves what the caller knows but for what it is shown.
+-- A refused turn changes only the number that the caller was shown.
 pub worn : (ticket : ℕ) (v w : Known Turn) → WornPass ticket v w → WornOut ticket (known_of v) (known_of w)
 worn ticket v w h = record {
   limit = h.limit;

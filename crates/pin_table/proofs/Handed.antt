@@ -20,7 +20,7 @@ use Rattle.pin_table.specs.Closing.{GivesOne, Gives, AllClose}
 use Rattle.pin_table.proofs.Places.{same_some, some-at, at-inside, all-at, map-get, length-mapped, read-at}
 use Rattle.pin_table.proofs.Gains.{events-append}
 
--- The caller of before, with its first k passes left.
+-- The same caller, with its first k passes left.
 pub record IsCut (locks : List TableId) (k : ℕ) (old new : CallerView) : Type 0 where
   pub number : new.number ≡ old.number
   pub locks_are : new.locks ≡ take k locks
@@ -116,7 +116,7 @@ cuts-one locks k (o ∷ olds) (c ∷ cs) (d ∷ ds) (p ∷ ps) lt cut gave =
     all_cons one more zero e lt = one
     all_cons one more (suc i) e lt = more i e (omega (arith, lt))
 
--- The passes stand at their callers' places.
+-- The passes are at their callers' places.
 handed-at : (k : ℕ) (cs : List CallerView) (ps : List (PassView Turn)) → Handed k cs ps → (i : ℕ) (c : CallerView) → slice_get cs i ≡ Some c → (p : PassView Turn) × (get_elem? (map (λ p. p.known) ps) i ≡ some p.known) × IsHanded k c p
 handed-at k [] ps h i c at = cc
 handed-at k (x ∷ cs) [] h i c at = absurd h
@@ -211,7 +211,7 @@ module _ (ls before after : List LockView) (l : LockView) (n k : ℕ) (one : k +
     pub passes-of : All (λ p. p.lock ≡ l.id) ps
     passes-of i d lt = step.2 i d lt ∙ name-there (get_or ps i d).lock
 
-    -- The closed shard stands before the others.
+    -- The closed shard goes before the others.
     pub each-closes : {I O : Type 0} (shard : ShardView I O) (shards next : List (ShardView I O)) → events shard.turns ≡ shard.history → Closes whose l.start shard.turns (map (λ p. p.known) ps)
         → next ≡ shard ∷ shards
         → ((j : ℕ) (m : LockView) (s : ShardView I O) → slice_get ls (n + j) ≡ Some m → slice_get shards j ≡ Some s → ShardCloses m.start (n + j) s olds)

@@ -42,7 +42,7 @@ own-again n (e ∷ es) = own_case (caller_of e == n) refl (own-again n es)
 held-own : (n id : ℕ) (es : List Event) → held n id (own n es) ≡ held n id es
 held-own n id es = sym (own_held-own n id (own n es)) ∙ (ap (own_held id) (own-again n es) ∙ own_held-own n id es)
 
--- All that was seen before the call has the caller's events of before.
+-- All that was seen before the call has the caller's earlier events.
 past-own : (n : ℕ) (e : Event) (v w : ShardKnown) (g : Gained n e v w) → own n v.seen ≡ v.mine → own n (v.seen ++ g.between) ≡ v.mine
 past-own n e v w g same = own-append n v.seen g.between ∙ (ap (λ es. own n v.seen ++ es) g.others ∙ (append-nil (own n v.seen) ∙ same))
 
@@ -60,7 +60,7 @@ and_again : (a b : Bool) → (a && b) ≡ (a && (a && b))
 and_again true b = refl
 and_again false b = refl
 
--- A caller never gave up more pins than it got.
+-- A caller never releases more pins than it was given.
 fewer : (n id : ℕ) (k : ShardKnown) → KnownFits n k → how_many (is_release n id) k.mine ≤ how_many (gives_pin n id) k.mine
 fewer n id k fits = some_case (replayed k.seen) refl fits.legal
   where

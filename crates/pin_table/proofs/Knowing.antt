@@ -1,4 +1,4 @@
--- Which inputs a caller knows by what it holds, and what a call for one answers.
+-- Which inputs a caller knows by what it holds, and what a call for one returns.
 use Rattle.std.proofs.Common.{◌≡◌, ℕ, ◌<◌, ◌⊎◌, inl, inr, true, false, cond, ◌&&◌, ◌==◌, List, ◌∷◌, ◌++◌, refl, sym, ap, subst, ◌∙◌, arith}
 use Rattle.std.proofs.lemmas.Bool.Decides.{nat_tests}
 use Rattle.std.proofs.lemmas.Cmp.{nat_list_eq_equiv}
@@ -42,7 +42,7 @@ covered-known v p ps covered =
       said = subst (λ (s : ℕ). list_any (says p.id p.digest) (known_at s v).mine ≡ true) given.shard (any-weaker (gave p.id p.digest) (says p.id p.digest) (gave-says p.id p.digest) (known_at p.shard v).mine given.given);
     }
 
--- Wherever it stands.
+-- Wherever it is in the list.
 pub covered-known-at : (v : CallerView) (os : List PinName) (p : PinName) (ps : List PinName) → Covered v (os ++ p ∷ ps) → IsKnown p.digest v
 covered-known-at v os p ps covered = covered-known v p ps (covered-right v os (p ∷ ps) covered)
 
@@ -56,23 +56,23 @@ known-later digest v w later k still =
       said = subst (λ (s : ℕ). list_any (says k.id digest) (known_at s w).mine ≡ true) same (ap (list_any (says k.id digest)) (later.mine (there digest v)).1 ∙ still-any (says k.id digest) (known_at (there digest v) v).mine (later.mine (there digest v)).0 k.said);
     }
 
--- So after a call that gives no pin up.
+-- The same after a call that gives up no pin.
 pub known-got : (digest : List ℕ) (v w : CallerView) (ps : List PinName) → Got v ps w → IsKnown digest v → IsKnown digest w
 known-got digest v w ps got k = known-later digest v w got.later k (let x = got.held (there digest v) k.id in let y = k.held in omega (arith, x, y))
 
 -- Answers.
 
--- What a caller knows of the shard where it holds an id.
+-- What a caller knows of the shard if it holds an id.
 fits-at : (s id : ℕ) (c : CallerView) → CallerFits c → 0 < held_at s id c → KnownFits c.number (known_at s c)
 fits-at s id c fits held = fits.each s (known_at s c) (at-get c.shards s nothing (held-inside s id c held))
 
--- A look for what is known is not answered by Absent.
+-- A look for what is known does not return Absent.
 pub known-not-absent : (n run : ℕ) (digest : List ℕ) (v w : CallerView) → CallerFits v → n ≡ v.number → IsKnown digest v → AtShard (Gained n (Look n run digest AbsentAnswer)) (there digest v) v w → ⊥
 known-not-absent n run digest v w fits numbered k h =
     let s = there digest v in
     (held-found v.number k.id run digest (known_at s v) (known_at s w) (fits-at s k.id v fits k.held) k.held k.said).0 AbsentAnswer (subst (λ (m : ℕ). Gained m (Look m run digest AbsentAnswer) (known_at s v) (known_at s w)) numbered (goes-there (Gained n (Look n run digest AbsentAnswer)) s v w h)) refl
 
--- Nor a keep of it by Stored.
+-- Nor does a keep of it return Stored.
 pub known-not-stored : (n run id : ℕ) (digest : List ℕ) (v w : CallerView) → CallerFits v → n ≡ v.number → IsKnown digest v → AtShard (Gained n (Keep n run digest (StoredAnswer id))) (there digest v) v w → ⊥
 known-not-stored n run id digest v w fits numbered k h =
     let s = there digest v in

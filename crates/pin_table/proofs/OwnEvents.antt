@@ -1,4 +1,4 @@
--- What a caller's own events gain, call after call, and what was met goes on.
+-- What a caller's own events gain call after call, and that what was met stays met.
 use Rattle.std.proofs.Common.{◌≡◌, ℕ, zero, suc, ◌^◌, ◌≤◌, ◌⊎◌, inl, inr, ⊎_elim, Bool, true, false, ◌||◌, List, [], ◌∷◌, ◌++◌, length, drop, refl, sym, ap, subst, ◌∙◌, append_assoc, append-nil}
 use Rattle.std.proofs.Math.Seq.{drop-append_seam, drop-nil}
 use Rattle.std.proofs.lemmas.Cmp.{nat_list_eq_equiv}
@@ -103,7 +103,7 @@ any-met-before u v w a b met = (met.0, met-before met.0 u v w a b met.1)
 pub met-clash : (n s : ℕ) (e : Event) (v w : CallerView) → is_clash e ≡ true → AtShard (Gained n e) s v w → MetAt s v w
 met-clash n s e v w h at = inl (ap (list_any is_clash) (gain-one n s e v w at) ∙ rw h refl)
 
--- A fault is want of memory, or a worn lock.
+-- A fault is out of memory, or a worn lock.
 pub met-fault : (f : MemoFault) (s : ℕ) (v w : CallerView) → Faults f s v w → (f ≡ Mem) ⊎ MetAt s v w
 met-fault (Worn ticket) s v w at = inr (inr (worn-there ticket s v w at))
 met-fault Mem s v w at = inl refl

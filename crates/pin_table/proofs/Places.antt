@@ -5,7 +5,7 @@ module _ {A : Type 0} where
   pub same_some : (a b : A) → Some a ≡ Some b → a ≡ b
   same_some a b h = cc
 
-  -- what stands at a place
+  -- what is at a place
   pub at-get : (xs : List A) (i : ℕ) (d : A) → i < length xs → slice_get xs i ≡ Some (get_or xs i d)
   at-get [] i d lt = absurd (omega (arith, lt))
   at-get (x ∷ xs) zero d lt = refl
@@ -109,14 +109,14 @@ module _ {A B : Type 0} (f : A → B) where
   map-push [] a = refl
   map-push (x ∷ xs) a = ap (λ (l : List B). f x ∷ l) (map-push xs a)
 
--- two lists that are seen the same, at one place
+-- two lists with equal models, at one place
 pub same-at : {A B C : Type 0} (f : A → C) (g : B → C) (xs : List A) (ys : List B) (i : ℕ) (a : A) (b : B) → map f xs ≡ map g ys → i < length xs → i < length ys → a ≡ get_or xs i a → b ≡ get_or ys i b → f a ≡ g b
 same-at {A} {B} {C} f g xs ys i a b same left right is there =
     let x : get_or (map f xs) i (f a) ≡ f (get_or xs i a) = map-get f xs i a (f a) left in
     let y : get_or (map g ys) i (f a) ≡ g (get_or ys i b) = map-get g ys i b (f a) right in
     ap f is ∙ (sym x ∙ (ap (λ (l : List C). get_or l i (f a)) same ∙ (y ∙ ap g (sym there))))
 
--- a place where something else than the default stands
+-- a place with an item other than the default
 pub at-some : {A : Type 0} (P : A → Type 0) (xs : List A) (i : ℕ) (d : A) → (P d → ⊥) → P (get_or xs i d) → i < length xs
 at-some P [] i d off h = absurd (off h)
 at-some P (x ∷ xs) zero d off h = omega arith

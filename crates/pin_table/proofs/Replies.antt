@@ -27,7 +27,7 @@ use Rattle.pin_table.specs.Answers.{Went, TookTurn, LookedAs, KeptAs, Looks, Kee
 use Rattle.pin_table.specs.Placing.{shard_at}
 use Rattle.pin_table.proofs.Places.{at-get, at-some}
 
--- The same shard's knowledge went on, as is said otherwise.
+-- The same shard's knowledge went on, stated otherwise.
 pub at-map : (P Q : ShardKnown → ShardKnown → Type 0) (s : ℕ) (v w : CallerView) → ((k j : ShardKnown) → P k j → Q k j) → AtShard P s v w → AtShard Q s v w
 at-map P Q s v w f h = record { next = h.next; inside = h.inside; goes = f (known_at s v) h.next h.goes; same = h.same }
 
@@ -65,7 +65,7 @@ worn-at v w s t at ticket h = subst (λ (i : ℕ). AtShard (WornOut ticket) i v 
 pub placed : (d e : List ℕ) (n m : ℕ) (s : ℕ) → s ≡ shard_at e n → e ≡ d → n ≡ m → s ≡ shard_at d m
 placed d e n m s is digest count = is ∙ (ap (λ (x : List ℕ). shard_at x n) digest ∙ ap (shard_at d) count)
 
--- What a caller holds stands at one of its shards.
+-- What a caller holds is at one of its shards.
 pub held-inside : (s id : ℕ) (v : CallerView) → 0 < held_at s id v → s < length v.shards
 held-inside s id v h = at-some (λ (k : ShardKnown). 0 < held v.number id k.mine) v.shards s nothing (λ none. absurd (omega (arith, none))) h
 
@@ -115,7 +115,7 @@ module _ {R I O : Type 0} (fits : I → O → Type 0) (digest_of : I → List �
         (at-map (TookTurn fits digest_of (KeepOp run input out) (KeepReply (Ok a)) v.number) (KeptAs fits digest_of v.number s run input out (kept_of v.number s a)) s v w (λ k j t. kept_as v.number s run input out k j a t) h))
 
 module _ (R : Type 0) {I O : Type 0} (fits : I → O → Type 0) (digest_of : I → List ℕ) (v w : CallerView) (s t : ℕ) (at : s ≡ t) where
-  -- Want of memory within the turn.
+  -- Out of memory within the turn.
   pub look-missed : (run : ℕ) (copy : I) (e : _) → AtShard (TookTurn {R = R} {I = I} {O = O} fits digest_of (LookOp run copy) (LookReply (Err e)) v.number) s v w → Faults Mem t v w
   look-missed run copy e h = subst (λ (i : ℕ). AtShard (Missed v.number) i v w) at (at-map (TookTurn {R = R} {I = I} {O = O} fits digest_of (LookOp run copy) (LookReply (Err e)) v.number) (Missed v.number) s v w (λ k j x. missed-of v.number k j x.0 x.1 x.2) h)
 

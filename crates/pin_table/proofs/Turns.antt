@@ -19,7 +19,7 @@ use Rattle.pin_table.specs.Answers.{MayAsk, TookTurn, RefusedTurn}
 use Rattle.pin_table.proofs.Places.{same_some, read-at, same-at, get-at, all-at, map-get, length-mapped}
 use Rattle.pin_table.proofs.Gains.{went, worn, known-fits, may-release}
 
--- What a caller with these passes is seen as.
+-- The model of a caller with these passes.
 abbrev pub caller_of_passes : ℕ → List (PassView Turn) → CallerView
 caller_of_passes n ps = record { locks = map (λ p. p.lock) ps; number = n; shards = map (λ p. known_of p.known) ps }
 

@@ -1,4 +1,4 @@
--- What the calls of a memo answer, and what their caller knows then.
+-- What the calls of a memo return, and what their caller then knows.
 use Rattle.std.specs.Prelude.{◌≡◌, ◌≢◌, ℕ, ◌<◌, List, length}
 use Rattle.memo_core.specs.declared.event.Event.TheVariants.{Look, Keep}
 use Rattle.memo_core.specs.declared.event.LookAnswer.TheVariants.{Hit as HitAnswer, Absent as AbsentAnswer, Clash as ClashAnswer}
@@ -23,7 +23,7 @@ use Rattle.pin_table.specs.Views.{ShardKnown, CallerView, PinView}
 use Rattle.pin_table.specs.Known.{Gained, Missed, WornOut, AtShard}
 use Rattle.pin_table.specs.Placing.{shard_at}
 
--- A fault at a shard: its lock was worn, or memory was wanting.
+-- A fault at a shard: its lock was worn, or memory ran out.
 abbrev pub Faults : MemoFault → ℕ → CallerView → CallerView → Type 0
 Faults (Worn ticket) s old new = AtShard (WornOut ticket) s old new
 Faults Mem s old new = AtShard (Missed old.number) s old new
@@ -50,7 +50,7 @@ module _ {I O : Type 0} (fits : I → O → Type 0) (digest_of : I → List ℕ)
   abbrev pub FoundAs : ℕ → ℕ → ℕ → I → PinView I O → ShardKnown → ShardKnown → Type 0
   FoundAs number s run input p old new = (p.caller ≡ number) × (p.shard ≡ s) × (p.input ≡ input) × fits p.input p.out × Gained number (Keep number run (digest_of input) (FoundAnswer p.id)) old new
 
-  -- A keep met this entry, of another input with an equal digest, and handed back what was handed in.
+  -- A keep met this entry, of another input with an equal digest, and gave back what was handed in.
   abbrev pub KeepClashAs : ℕ → ℕ → I → O → EntryView I O → I → O → ShardKnown → ShardKnown → Type 0
   KeepClashAs number run input out e i o old new = (i ≡ input) × (o ≡ out) × (e.input ≢ input) × (digest_of e.input ≡ digest_of input) × fits e.input e.out × Gained number (Keep number run (digest_of input) (KeepClashAnswer e.id)) old new
 
@@ -63,11 +63,11 @@ module _ {R I O : Type 0} (fits : I → O → Type 0) where
   MayAsk number k (SweepOp horizon) = Unit {0}
 
   module _ (digest_of : I → List ℕ) where
-    -- A turn that answers what was asked by this reply.
+    -- A turn for this operation, with this reply.
     abbrev pub TookTurn : ShardOp R I O → ShardReply R I O → ℕ → ShardKnown → ShardKnown → Type 0
     TookTurn op reply number old new = (e : Turn) × AnswersOp fits digest_of e op reply × Went number e old new
 
-    -- A refused turn hands back what was asked.
+    -- A refused turn gives the operation back.
     abbrev pub RefusedTurn : ShardOp R I O → Turned (ShardOp R I O) → ℕ → CallerView → CallerView → Type 0
     RefusedTurn op (WornTurn ticket back) s old new = (back ≡ op) × AtShard (WornOut ticket) s old new
 

@@ -1,4 +1,4 @@
--- The pins that an object holds, against what its caller holds.
+-- The pins that an object holds, compared with what its caller holds.
 use Rattle.std.specs.Prelude.{◌≡◌, ℕ, ◌+◌, ◌≤◌, ◌==◌, ◌&&◌, Bool, true, List, [], ◌∷◌, ◌++◌, length, map}
 use Rattle.std.specs.List.{list_any}
 use Rattle.memo_core.specs.declared.event.Event.{Event}
@@ -12,7 +12,7 @@ use Rattle.pin_table.specs.declared.answers.Looked.TheVariants.{Hit, Absent, Cla
 use Rattle.pin_table.specs.declared.answers.Kept.{Kept}
 use Rattle.pin_table.specs.declared.answers.Kept.TheVariants.{Stored, Found, Clash as KeepClash}
 
--- A pin by its parts: whose it is, where its entry stands, and the digest of the entry's input.
+-- A pin by its parts: its caller, the shard and the id of its entry, and the digest of the entry's input.
 pub record PinName : Type 0 where
   pub caller : ℕ
   pub shard : ℕ
@@ -23,7 +23,7 @@ pub record PinName : Type 0 where
 abbrev pub is_on : ℕ → ℕ → PinName → Bool
 is_on s id p = (p.shard == s) && (p.id == id)
 
--- How often the shard's id stands among the pins.
+-- How often the shard's id is among the pins.
 abbrev pub count : ℕ → ℕ → List PinName → ℕ
 count s id ps = how_many (is_on s id) ps
 
@@ -31,13 +31,13 @@ count s id ps = how_many (is_on s id) ps
 abbrev pub gave : ℕ → List ℕ → Event → Bool
 gave id digest e = gives id e && says id digest e
 
--- The pin is the caller's, stands in the shard of its digest, and was given by an event of the caller's there.
+-- The pin is the caller's and in the shard of its digest, and an event of the caller's there gave it.
 pub record IsGiven (c : CallerView) (p : PinName) : Type 0 where
   pub caller : p.caller ≡ c.number
   pub shard : p.shard ≡ shard_at p.digest (length c.locks)
   pub given : list_any (gave p.id p.digest) (known_at p.shard c).mine ≡ true
 
--- Each of the pins is such a one.
+-- Each of the pins is such a pin.
 abbrev pub AreGiven : CallerView → List PinName → Type 0
 AreGiven c [] = Unit {0}
 AreGiven c (p ∷ ps) = IsGiven c p × AreGiven c ps
@@ -47,7 +47,7 @@ pub record Covered (c : CallerView) (ps : List PinName) : Type 0 where
   pub given : AreGiven c ps
   pub held : (s id : ℕ) → count s id ps ≤ held_at s id c
 
--- The caller of before, after some turns.
+-- The same caller, after some turns.
 pub record IsLater (old new : CallerView) : Type 0 where
   pub locks : new.locks ≡ old.locks
   pub number : new.number ≡ old.number
@@ -57,7 +57,7 @@ pub record IsLater (old new : CallerView) : Type 0 where
   pub shown : (s : ℕ) → (known_at s new).shown ≡ 0 → (known_at s old).shown ≡ 0
   pub worn : (s : ℕ) → IsWorn s old → IsWorn s new
 
--- The caller holds these pins more, and else what it held, at worn locks too.
+-- The caller holds these pins in addition to what it held, even at worn locks.
 pub record Got (old : CallerView) (ps : List PinName) (new : CallerView) : Type 0 where
   pub later : IsLater old new
   pub held : (s id : ℕ) → held_at s id new ≡ held_at s id old + count s id ps
@@ -68,7 +68,7 @@ pub record Balanced (old : CallerView) (ps : List PinName) (new : CallerView) (q
   pub least : (s id : ℕ) → held_at s id old + count s id qs ≤ held_at s id new + count s id ps
   pub exact : (s : ℕ) → (known_at s new).shown ≡ 0 → (id : ℕ) → held_at s id old + count s id qs ≡ held_at s id new + count s id ps
 
--- The pins are covered, and the caller holds nothing beyond them where no lock was shown worn.
+-- The pins are covered, and the caller holds nothing beyond them if no lock was shown worn.
 pub record Backed (c : CallerView) (ps : List PinName) : Type 0 where
   pub covered : Covered c ps
   pub exact : (s : ℕ) → (known_at s c).shown ≡ 0 → (id : ℕ) → held_at s id c ≡ count s id ps

@@ -28,7 +28,7 @@ module _ {I O : Type 0} where
     pub mine : own c.number shard.history ≡ (known_at s c).mine
     pub shown : (known_at s c).shown ≤ start + length shard.turns
 
-  -- So with each caller; one of them has seen all of it; and each event is that of one of them.
+  -- The same for each caller; one of them has seen all of it; and each event is that of one of them.
   pub record ShardCloses (start s : ℕ) (shard : ShardView I O) (cs : List CallerView) : Type 0 where
     pub each : (i : ℕ) (c : CallerView) → slice_get cs i ≡ Some c → CallerCloses start s shard c
     pub last : (i : ℕ) × (c : CallerView) × (slice_get cs i ≡ Some c) × ((known_at s c).seen ≡ shard.history)

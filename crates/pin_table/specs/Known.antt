@@ -7,13 +7,14 @@ use Rattle.memo_core.specs.History.{held}
 use Rattle.memo_server.specs.Callers.{caller_of, own}
 use Rattle.pin_table.specs.Views.{ShardKnown, CallerView, nothing}
 
--- What a caller has seen of a shard is a legal history, its own events are those of it under its number, and a shown number is 2^62 or more.
+-- What a caller has seen of a shard is a legal history, its own events are those under its number, and a shown number
+-- is 2^62 or more.
 pub record KnownFits (number : ℕ) (k : ShardKnown) : Type 0 where
   pub legal : IsSome (replayed k.seen)
   pub same : own number k.seen ≡ k.mine
   pub shown : (k.shown ≡ 0) ⊎ (2 ^ 62 ≤ k.shown)
 
--- So with each of its shards, of which there are as many as locks.
+-- The same for each of its shards, of which there are as many as locks.
 pub record CallerFits (c : CallerView) : Type 0 where
   pub each : (s : ℕ) (k : ShardKnown) → slice_get c.shards s ≡ Some k → KnownFits c.number k
   pub count : length c.shards ≡ length c.locks
@@ -31,7 +32,7 @@ pub record Gained (number : ℕ) (e : Event) (old new : ShardKnown) : Type 0 whe
   pub mine : new.mine ≡ old.mine ++ e ∷ []
   pub shown : new.shown ≡ old.shown
 
--- Events of others were seen, maybe, and nothing else changed.
+-- Possibly events of others were seen, and nothing else changed.
 pub record Missed (number : ℕ) (old new : ShardKnown) : Type 0 where
   pub between : List Event
   pub seen : new.seen ≡ old.seen ++ between
@@ -40,7 +41,7 @@ pub record Missed (number : ℕ) (old new : ShardKnown) : Type 0 where
   pub mine : new.mine ≡ old.mine
   pub shown : new.shown ≡ old.shown
 
--- The call's check found this number, 2^62 or more, which is shown now, and nothing else changed.
+-- The call's check found this number, 2^62 or more, which is now shown, and nothing else changed.
 pub record WornOut (ticket : ℕ) (old new : ShardKnown) : Type 0 where
   pub limit : 2 ^ 62 ≤ ticket
   pub seen : new.seen ≡ old.seen
@@ -55,7 +56,7 @@ known_at s c = slice_index_or c.shards s nothing
 abbrev pub held_at : ℕ → ℕ → CallerView → ℕ
 held_at s id c = held c.number id (known_at s c).mine
 
--- The caller's knowledge of one shard went on so, and all else of the caller is as before.
+-- The caller's knowledge of one shard went on in this way, and everything else is unchanged.
 pub record AtShard (Goes : ShardKnown → ShardKnown → Type 0) (s : ℕ) (old new : CallerView) : Type 0 where
   pub next : ShardKnown
   pub inside : s < length old.shards

@@ -1,4 +1,4 @@
--- What a caller may count on from turn to turn.
+-- What a caller may rely on from turn to turn.
 use Rattle.std.specs.Prelude.{◌≡◌, ◌≢◌, ℕ, ◌+◌, ◌<◌, ◌==◌, true, false, if◌then◌else◌, List, Some}
 use Rattle.std.specs.List.{list_any}
 use Rattle.memo_core.specs.declared.entries.CoreEntry.{CoreEntry}
@@ -39,26 +39,26 @@ KeepSays s digest (KeepClash id) = IsLive s id digest
 abbrev pub TurnKeeps : Type 0
 TurnKeeps = (number : ℕ) (e : Event) (old new : ShardKnown) → KnownFits number old → Gained number e old new → KnownFits number new
 
--- What a caller holds rises and falls by its own events alone.
+-- What a caller holds changes only by its own events.
 abbrev pub HeldFollows : Type 0
 HeldFollows =
     (number id : ℕ) (e : Event) (old new : ShardKnown) → KnownFits number old → Gained number e old new
     → held number id new.mine + (if frees id e then 1 else 0) ≡ held number id old.mine + (if gives id e then 1 else 0)
 
--- An id that the caller holds is live in all that it has seen, with exactly so many pins of it.
+-- An id that the caller holds is live in all that it has seen, with exactly as many pins of the caller as it holds.
 abbrev pub HeldIsLive : Type 0
 HeldIsLive =
     (number id : ℕ) (k : ShardKnown) → KnownFits number k → 0 < held number id k.mine
     → (s : CoreState) × (e : CoreEntry) × (replayed k.seen ≡ Some s) × (find_id id s.entries ≡ Some e) × (how_many (λ c. c == number) e.pins ≡ held number id k.mine)
 
--- A look for what a caller holds by an event of its own is not answered by Absent, nor a keep by Stored.
+-- A look for what a caller holds by an event of its own does not return Absent, nor a keep Stored.
 abbrev pub HeldIsFound : Type 0
 HeldIsFound =
     (number id run : ℕ) (digest : List ℕ) (old new : ShardKnown) → KnownFits number old → 0 < held number id old.mine → list_any (says id digest) old.mine ≡ true
     → ((answer : LookAnswer) → Gained number (Look number run digest answer) old new → answer ≢ Absent)
     × ((answer : KeepAnswer) (i : ℕ) → Gained number (Keep number run digest answer) old new → answer ≢ Stored i)
 
--- Each answer says what holds of the state after all that was seen before the call.
+-- Each answer says what holds of the state before the call.
 abbrev pub AnswersAreExact : Type 0
 AnswersAreExact =
     (number run : ℕ) (digest : List ℕ) (old new : ShardKnown)

@@ -57,7 +57,7 @@ is_clash (Sweep who horizon dropped) = false
 abbrev pub MetAt : ℕ → CallerView → CallerView → Type 0
 MetAt s old new = (list_any is_clash (gain_at s old new) ≡ true) ⊎ IsWorn s new
 
--- So at some shard.
+-- The same at some shard.
 abbrev pub Met : CallerView → CallerView → Type 0
 Met old new = (s : ℕ) × MetAt s old new
 

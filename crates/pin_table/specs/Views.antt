@@ -1,4 +1,4 @@
--- What a clause sees of a memo, of a caller and of a pin.
+-- The models of a memo, of a caller and of a pin.
 use Rattle.std.specs.Prelude.{◌≡◌, ℕ, ◌^◌, nat_lt, if◌then◌else◌, List, [], ◌∷◌, ◌++◌, map}
 use Rattle.atomic_table.specs.Seated.{TableId}
 use Rattle.turn_lock.specs.declared.knowledge.Known.{Known}
@@ -14,19 +14,20 @@ pub record MemoView : Type 0 where
   pub start : ℕ
   pub callers : ℕ
 
--- What a caller knows of a shard: the events up to its last turn there, its own among them, and the last number of 2^62 or more that a check of its found there, 0 before.
+-- What a caller knows of a shard: the events up to its last turn there, its own among them, and the last number of 2^62
+-- or more that its checks found there, or 0.
 pub record ShardKnown : Type 0 where
   pub seen : List Event
   pub mine : List Event
   pub shown : ℕ
 
--- A caller: whose memo's it is, its number, and what it knows of each shard.
+-- A caller: its memo's locks, its number, and what it knows of each shard.
 pub record CallerView : Type 0 where
   pub locks : List TableId
   pub number : ℕ
   pub shards : List ShardKnown
 
--- A pin: whose it is, the shard and the number of its entry, and what the entry has.
+-- A pin: its caller, the shard and the id of its entry, and the entry's input and result.
 pub record PinView (I O : Type 0) : Type 0 where
   pub caller : ℕ
   pub shard : ℕ
@@ -38,11 +39,11 @@ pub record PinView (I O : Type 0) : Type 0 where
 abbrev pub nothing : ShardKnown
 nothing = record { seen = []; mine = []; shown = 0 }
 
--- What a pass knows, without the turns that met want of memory.
+-- What a pass knows, without the turns that ran out of memory.
 abbrev pub known_of : Known Turn → ShardKnown
 known_of k = record { seen = events k.seen; mine = events k.mine; shown = if nat_lt k.read (2 ^ 62) then 0 else k.read }
 
--- A pass is under its caller's number, what it has seen is legal, and its own turns are those of it under its number.
+-- A pass is under its caller's number, what it has seen is legal, and its own turns are those under its number.
 pub record PassFits (number : ℕ) (k : Known Turn) : Type 0 where
   pub numbered : k.number ≡ number
   pub legal : IsLegal k.seen

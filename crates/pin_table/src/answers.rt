@@ -1,13 +1,13 @@
-//! What a memo answers to a look and to a keep, with the pin that it gave; and why a call had no answer.
+//! The answers of a memo to a look and to a keep, with the pin that it gave; and why a call failed.
 use crate::pin::Pin;
 use memo_server::{Recipe, SharedEntry};
 
-/// Why a call of a memo had no answer.
+/// Why a call of a memo failed.
 #[derive(Drop)]
 pub enum MemoFault {
-    /// The next ticket of the shard's lock stood at 2^62 or more, at this number.
+    /// The lock of the shard is worn: its next ticket was 2^62 or more, namely `ticket`.
     Worn { ticket: u64 },
-    /// Memory was wanting.
+    /// Out of memory.
     Mem,
 }
 
@@ -18,7 +18,7 @@ pub enum Looked<R: Recipe> {
     Hit(Pin<R>),
     /// No live entry has the input's digest.
     Absent,
-    /// The entry that has the digest, whose input is another.
+    /// The entry that has the digest, but another input.
     Clash(SharedEntry<R>),
 }
 
@@ -27,13 +27,13 @@ pub enum Looked<R: Recipe> {
 pub enum Kept<R: Recipe> {
     /// A pin on the new entry.
     Stored(Pin<R>),
-    /// A new pin on the entry that had this input already.
+    /// A new pin on the entry that has this input already.
     Found(Pin<R>),
-    /// The entry that has the digest, whose input is another, and what was handed in.
+    /// The entry that has the digest, but another input; and the input and the result that were handed in.
     Clash(SharedEntry<R>, R::In, R::Out),
 }
 
-/// A keep that had no answer, with what was handed in.
+/// Why a keep failed, with the input and the result that were handed in.
 #[derive(Drop)]
 pub struct KeepRefused<R: Recipe> {
     pub fault: MemoFault,

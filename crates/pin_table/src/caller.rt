@@ -1,4 +1,4 @@
-//! One who calls a memo: a pass at the lock of each shard, all under one number, and what these passes know.
+//! A caller of a memo: a pass at the lock of each shard, all under one number, and what these passes know.
 ghost use Rattle.std.specs.Prelude.{◌≡◌, ◌<◌, [], length, IfOk};
 ghost use Rattle.turn_lock.specs.Views.{unplayed};
 ghost use Rattle.pin_table.specs.Known.{CallerFits};
@@ -47,7 +47,7 @@ impl<R: Recipe> Caller<R> {
         }
     }
 
-    // A last pass, before its first turn.
+    // Adds a pass, before its first turn.
     pub(crate) fn take(&mut self, pass: Pass<Shard<R>>) -> Result<(), AllocError>
         requires { pass ≡ unplayed pass.lock self.old.number }
         ensures { IfOk result (λ _. self.new ≡ with_lock pass.lock self.old) }
@@ -56,7 +56,7 @@ impl<R: Recipe> Caller<R> {
         Ok(())
     }
 
-    // Its last pass.
+    // Removes its last pass.
     pub(crate) fn give(&mut self) -> Pass<Shard<R>>
         requires { 0 < length self.old.locks }
         ensures { GivesOne self.old self.new result }

@@ -1,4 +1,4 @@
-//! How a memo is closed: its callers give their passes back shard by shard, and each lock gives its shard out.
+//! How a memo is closed: its callers give their passes back shard by shard, and each lock gives its shard back.
 ghost use Rattle.std.specs.Prelude.{◌≡◌, ℕ, ◌+◌, ◌<◌, ◌≤◌, [], length, vec_len, vec_capacity, IfOk, IfErr, All, map};
 ghost use Rattle.pin_table.specs.Ends.{Closes};
 ghost use Rattle.pin_table.specs.Closing.{AllClose, Gives};
@@ -10,11 +10,11 @@ use std::alloc::{AllocError, Global};
 use turn_lock::{Pass, TurnLock};
 
 impl<R: Recipe> Memo<R> {
-    /// The shards, once every caller has been given back.
+    /// Gives the shards back, once every caller is given back.
     ///
     /// # Errors
     ///
-    /// Want of memory, with the memo and its callers as they were.
+    /// Out of memory. The memo and its callers come back unchanged.
     pub fn close(
         self,
         callers: Vec<Caller<R>>,
@@ -42,7 +42,7 @@ impl<R: Recipe> Memo<R> {
     }
 }
 
-// So many empty rows, each with room for so many passes.
+// Empty rows, one for each shard, each with room for a pass of each caller.
 fn rows_for<R: Recipe>(
     alloc: Global,
     rows: usize,

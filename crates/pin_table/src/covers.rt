@@ -1,5 +1,5 @@
-//! How an object that holds pins of one caller shows that they stay covered. The functions do nothing: a proof above calls the law
-//! by its name, or the lemma of the same meaning in `proofs/Covering.antt` and `proofs/Answering.antt`.
+//! How an object that holds pins of one caller shows that they stay covered. The functions do nothing: a caller gets
+//! the law by the call, a proof by the lemma of the same meaning in `proofs/Covering.antt` or `proofs/Answering.antt`.
 ghost use Rattle.std.specs.Prelude.{◌≡◌, ℕ, ◌<◌, List, [], ◌∷◌, ◌++◌};
 ghost use Rattle.memo_core.specs.declared.event.Event.TheVariants.{Release, Sweep};
 ghost use Rattle.pin_table.specs.Views.{CallerView};
@@ -12,14 +12,15 @@ ghost use Rattle.pin_table.specs.declared.answers.MemoFault.{MemoFault};
 
 use memo_server::Recipe;
 
-/// Balances of calls one after another, and beside pins that stay, are balances; a balance keeps a cover once the new pins are given.
+/// Balances of calls one after another, and in addition to pins that stay, are balances; a balance keeps a cover once
+/// the new pins are given.
 pub fn balances_add_up()
     ensures follow { (u v w : CallerView) (ps qs rs : List PinName) → Balanced u ps v qs → Balanced v qs w rs → Balanced u ps w rs }
     ensures beside { (v w : CallerView) (os ps qs : List PinName) → Balanced v ps w qs → Balanced v (os ++ ps) w (os ++ qs) }
     ensures keep { (v w : CallerView) (ps qs : List PinName) → Covered v ps → Balanced v ps w qs → AreGiven w qs → Covered w qs }
 {}
 
-/// A covered pin may be released, and whether it is or a worn lock keeps it, what is held beyond the other pins stays.
+/// A covered pin may be released; whether it is, or a worn lock refuses, what is held beyond the other pins stays.
 pub fn releases_balance()
     ensures held { (v : CallerView) (p : PinName) (ps : List PinName) → Covered v (p ∷ ps) → 0 < held_at p.shard p.id v }
     ensures released { (v w : CallerView) (p : PinName) (ps : List PinName) → CallerFits v → AtShard (Gained v.number (Release v.number p.id)) p.shard v w → Balanced v (p ∷ ps) w ps }
@@ -32,13 +33,14 @@ pub fn faults_balance()
     ensures swept { (s horizon dropped : ℕ) (v w : CallerView) (ps : List PinName) → CallerFits v → AtShard (Gained v.number (Sweep v.number horizon dropped)) s v w → Balanced v ps w ps }
 {}
 
-/// The pin of a look or a keep is covered beside the pins that were.
+/// The pin of a look or a keep is covered in addition to the pins before it.
 pub fn answers_balance<R: Recipe>()
     ensures look { (v w : CallerView) (ps : List PinName) (run : ℕ) (input : R.In) (looked : Looked R R.In R.Out) → CallerFits v → Covered v ps → Looks R.fits R.digest_of run input looked v w → Balanced v ps w (ps ++ looked_pins R.digest_of looked) × Covered w (ps ++ looked_pins R.digest_of looked) }
     ensures keep { (v w : CallerView) (ps : List PinName) (run : ℕ) (input : R.In) (out : R.Out) (kept : Kept R R.In R.Out) → CallerFits v → Covered v ps → Keeps R.fits R.digest_of run input out kept v w → Balanced v ps w (ps ++ kept_pins R.digest_of kept) × Covered w (ps ++ kept_pins R.digest_of kept) }
 {}
 
-/// After an answer a caller holds exactly what it held and the pin of the answer, at a worn lock too, and the pin was given.
+/// After an answer a caller holds exactly what it held and the pin of the answer, even at a worn lock, and the pin was
+/// given.
 pub fn answers_hold<R: Recipe>()
     ensures look { (v w : CallerView) (run : ℕ) (input : R.In) (looked : Looked R R.In R.Out) → CallerFits v → Looks R.fits R.digest_of run input looked v w → Got v (looked_pins R.digest_of looked) w × AreGiven w (looked_pins R.digest_of looked) }
     ensures keep { (v w : CallerView) (run : ℕ) (input : R.In) (out : R.Out) (kept : Kept R R.In R.Out) → CallerFits v → Keeps R.fits R.digest_of run input out kept v w → Got v (kept_pins R.digest_of kept) w × AreGiven w (kept_pins R.digest_of kept) }

@@ -1,9 +1,10 @@
 //! A memo that callers in several threads share: 1 to 8 shards, each behind a turn lock of its own, and pins.
 //!
-//! Start at [`Memo::new`], then [`Memo::look`] and [`Memo::keep`], whose answers carry a [`Pin`], then [`Memo::release`].
-//! A call takes one turn at one shard, whose input's digest is computed before it; nothing in it grows with the number of entries,
-//! but for `sweep`, which walks them. Each call that succeeds is one event of its shard's history, which is legal.
-//! Nothing is promised of the order of turns at two shards, or that a turn ever comes.
+//! Start at [`Memo::new`], then [`Memo::look`] and [`Memo::keep`], whose answers carry a [`Pin`], then
+//! [`Memo::release`]. A call takes one turn at one shard; the digest of its input is computed before. Except for
+//! `sweep`, which walks the entries, the cost of a call does not grow with their number, apart from a binary search.
+//! Each call that succeeds is one event of its shard's history, which is legal. The order of turns at two shards is not
+//! promised, nor that a turn ever comes.
 #![tactic(auto)]
 
 mod answers;

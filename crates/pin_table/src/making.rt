@@ -15,8 +15,8 @@ use std::alloc::{AllocError, Global};
 use turn_lock::{Pass, TurnLock};
 
 impl<R: Recipe> Memo<R> {
-    /// A memo without entries whose locks start at 0, and its callers, numbered from 0 in their order.
-    /// Fails only for want of memory.
+    /// A memo without entries whose locks start at 0, and its callers, numbered from 0 in their order. It fails only
+    /// out of memory.
     pub fn new(
         alloc: Global,
         shards: u32,
@@ -29,8 +29,8 @@ impl<R: Recipe> Memo<R> {
         Memo::starting_at(alloc, 0, shards, callers)
     }
 
-    /// A memo without entries whose locks start at `n`, and its callers, numbered from 0 in their order.
-    /// Fails only for want of memory.
+    /// A memo without entries whose locks start at `n`, and its callers, numbered from 0 in their order. It fails only
+    /// out of memory.
     pub fn starting_at(
         alloc: Global,
         n: u64,
@@ -58,7 +58,7 @@ impl<R: Recipe> Memo<R> {
     }
 }
 
-// So many callers, numbered from 0, that have no pass yet.
+// Callers, numbered from 0, that have no pass yet.
 fn without_passes<R: Recipe>(alloc: Global, callers: u32) -> Result<Vec<Caller<R>>, AllocError>
     ensures { IfOk result (λ all. (vec_len all ≡ callers) × AreNewcomers [] all.items) }
 {

@@ -1,4 +1,4 @@
-//! A memo, as it lies in memory: its locks, each over a shard, and how many callers it was made with.
+//! A memo, as it is in memory: its locks, each over a shard, and the number of its callers.
 ghost use Rattle.std.specs.Prelude.{◌≡◌, ◌<◌, ◌≤◌, length};
 
 use memo_server::{Recipe, Shard};
@@ -6,7 +6,8 @@ use std::alloc::Global;
 use std::marker::Model;
 use turn_lock::TurnLock;
 
-/// Shards of a memo, each behind a lock of its own. Who has one of its callers may look up, keep, release and sweep.
+/// A memo: shards, each behind a lock of its own. The holder of one of its callers may look up, keep, release and
+/// sweep.
 #[derive(Drop)]
 pub struct Memo<R: Recipe> {
     pub(crate) alloc: Global,

@@ -1,12 +1,12 @@
-//! A hold on an entry: whose it is, at which shard, and a share of the entry, whose result it hands out.
+//! A hold on an entry: the caller and the shard, and a share of the entry, whose result it gives.
 ghost use Rattle.std.specs.Prelude.{◌≡◌, IfOk};
 
 use memo_server::{Recipe, SharedEntry};
 use std::alloc::AllocError;
 use std::marker::Model;
 
-/// A caller's hold on an entry, which keeps it from being swept until `Memo::release` takes the pin.
-/// A pin that is dropped leaves its entry pinned for the memo's life.
+/// A caller's hold on an entry, which protects it from sweeps until `Memo::release` takes the pin. A pin that is
+/// dropped leaves its entry pinned for the memo's life.
 #[derive(Drop)]
 pub struct Pin<R: Recipe> {
     pub(crate) caller: u64,
@@ -23,7 +23,7 @@ impl<R: Recipe> Model for Pin<R> {
 }
 
 impl<R: Recipe> Pin<R> {
-    /// The entry's result, the definition's value of its input.
+    /// The entry's result, which fits its input.
     pub fn out(&self) -> &R::Out
         ensures value { result.now ≡ self.now.out }
         ensures fits { R.fits self.now.input self.now.out }
@@ -31,7 +31,7 @@ impl<R: Recipe> Pin<R> {
         self.entry.out()
     }
 
-    /// The entry. Fails only where the count of an `Arc` can't rise.
+    /// Another owner of the entry. It fails only if the count of the `Arc` cannot increase.
     pub fn entry(&self) -> Result<SharedEntry<R>, AllocError>
         ensures same { IfOk result (λ e. (e.id ≡ self.now.id) × (e.input ≡ self.now.input) × (e.out ≡ self.now.out)) }
     {

@@ -1,4 +1,4 @@
-//! Where an input is kept: the shard that the second byte of its digest names.
+//! The shard of an input, by the second byte of its digest.
 ghost use Rattle.std.specs.Prelude.{◌≡◌, ◌<◌};
 ghost use Rattle.pin_table.specs.Placing.{shard_at};
 

@@ -1,4 +1,5 @@
-//! Memos that one caller or several threads call: clashes, worn locks, pins that outlive a sweep, and one history a shard.
+//! Memos that one caller or several threads call: clashes, worn locks, pins that outlive a sweep, and one history for
+//! each shard.
 ghost use Rattle.std.specs.Prelude.{◌≡◌, ◌+◌, ◌*◌, ◌%◌, ◌<◌, vec_len, All, IfOk};
 ghost use Rattle.pin_table.specs.Covers.{Covered, names_of};
 ghost use Rattle.pin_table.specs.Spread.{spread};
@@ -11,7 +12,7 @@ use std::sync::Wait;
 use std::test::Fail;
 use std::thread;
 
-// Twice a number, with a digest that spreads small numbers over the shards, and does not tell 1 from 257.
+// Twice a number, with a digest that spreads small numbers over the shards; 1 and 257 have the same digest.
 #[derive(Drop)]
 struct Twice;
 
@@ -43,7 +44,7 @@ impl Recipe for Twice {
     }
 }
 
-// What a call answered.
+// What a call returned.
 #[derive(Clone, Copy, PartialEq, Eq, Debug)]
 enum Said {
     Hit(u64),
@@ -58,7 +59,7 @@ enum Said {
     Mem,
 }
 
-// A caller with the pins that it holds, the last one on top.
+// A caller with the pins that it holds, the last one at the end.
 #[derive(Drop)]
 struct Desk<R: Recipe> {
     caller: Caller<R>,
@@ -107,7 +108,7 @@ impl<R: Recipe> Desk<R> {
         }
     }
 
-    // Keeps an out for the input, and holds the pin.
+    // Keeps a result for the input, and holds the pin.
     fn keep<W: Wait>(&mut self, rt: &W, memo: &Memo<R>, run: u64, input: R::In, out: R::Out) -> Said
         requires of { self.old.caller.locks ≡ memo.now.locks }
         requires covered { Covered self.old.caller (names_of R.digest_of self.old.pins.items) }
@@ -140,7 +141,7 @@ impl<R: Recipe> Desk<R> {
         }
     }
 
-    // Gives the last pin up; where the lock is worn it stays.
+    // Releases the last pin; if the lock is worn it stays.
     fn release<W: Wait>(&mut self, rt: &W, memo: &Memo<R>) -> Said
         requires of { self.old.caller.locks ≡ memo.now.locks }
         requires covered { Covered self.old.caller (names_of R.digest_of self.old.pins.items) }
@@ -232,7 +233,7 @@ fn last_desk<R: Recipe>(memo: &Memo<R>, desks: &mut Vec<Desk<R>>) -> Desk<R>
     }
 }
 
-// The callers of the desks, whose pins are let go.
+// The callers of the desks, whose pins are dropped.
 fn callers_of<R: Recipe>(
     alloc: Global,
     memo: &Memo<R>,
@@ -372,7 +373,7 @@ fn inputs_stand_in_the_shards_of_their_digests(rt: HostRuntime) -> Result<(), Fa
     Ok(())
 }
 
-// Looks, keeps what is absent, gives pins up and sweeps, over and over.
+// Looks, keeps what is absent, releases pins and sweeps, over and over.
 fn works<W: Wait>(rt: &W, memo: &Memo<Twice>, desk: &mut Desk<Twice>, rounds: u64)
     requires of { desk.old.caller.locks ≡ memo.now.locks }
     requires covered { Covered desk.old.caller (names_of spread desk.old.pins.items) }

@@ -15,12 +15,13 @@ use std::sync::Wait;
 use turn_lock::Turned;
 
 impl<R: Recipe> Memo<R> {
-    /// Looks for the entry of an input, in the shard of its digest. `Hit` carries one more pin of the caller, and raises the
-    /// entry's last run to `run`. It may wait for its turn, in which it makes one search by digest and one comparison of inputs.
+    /// Looks for the entry of an input, in the shard of its digest. `Hit` carries one more pin of the caller, and
+    /// raises the entry's last run to `run`. A turn makes one search by digest and one comparison of inputs. It may
+    /// block.
     ///
     /// # Errors
     ///
-    /// `Worn` where the ticket of the shard's lock stood at 2^62 or more at this call's check, and `Mem`.
+    /// `Worn` if this call's check found the ticket of the shard's lock at 2^62 or more; `Mem` out of memory.
     pub fn look<W: Wait>(
         &self,
         rt: &W,
@@ -56,13 +57,13 @@ impl<R: Recipe> Memo<R> {
         }
     }
 
-    /// Keeps an out for its input in the shard of the input's digest, where no live entry has the digest. `Stored` and `Found`
-    /// carry one more pin of the caller. It may wait for its turn, in which it makes one search and one insertion.
+    /// Keeps a result for its input in the shard of the input's digest, if no live entry has the digest. `Stored` and
+    /// `Found` carry one more pin of the caller. A turn makes one search and one insertion. It may block.
     ///
     /// # Errors
     ///
-    /// `Worn` where the ticket of the shard's lock stood at 2^62 or more at this call's check, and `Mem`, with what was
-    /// handed in.
+    /// `Worn` if this call's check found the ticket of the shard's lock at 2^62 or more; `Mem` out of memory. Input and
+    /// result come back.
     pub fn keep<W: Wait>(
         &self,
         rt: &W,
@@ -123,11 +124,12 @@ impl<R: Recipe> Memo<R> {
         }
     }
 
-    /// Gives a pin up. It takes no memory, and may wait for its turn, in which it makes one binary search.
+    /// Releases a pin. It takes no memory. A turn makes one binary search. It may block.
     ///
     /// # Errors
     ///
-    /// The pin, where the ticket of the shard's lock stood at 2^62 or more at this call's check, which is shown now.
+    /// The pin comes back if this call's check found the ticket of the shard's lock at 2^62 or more, which the caller
+    /// is then shown.
     pub fn release<W: Wait>(
         &self,
         rt: &W,
@@ -141,7 +143,7 @@ impl<R: Recipe> Memo<R> {
         ensures back { IfErr result (λ back. back ≡ pin) }
         ensures worn { IfErr result (λ _. AtShard (WornOut (known_at pin.shard caller.new).shown) pin.shard caller.old caller.new) }
     {
-        // What the caller holds stands at one of its shards.
+        // What the caller holds is at one of its shards.
         let _ = caller.number();
         let id = pin.entry.id();
         match self.turn(rt, caller, pin.shard, ShardOp::Release { id }) {
@@ -153,12 +155,12 @@ impl<R: Recipe> Memo<R> {
         }
     }
 
-    /// Drops the entries of a shard that nobody holds and that were last used below the horizon, and answers how many.
-    /// It may wait for its turn, in which it walks over the shard's entries once.
+    /// Drops the entries of a shard that nobody holds and that were last used below the horizon, and returns how many.
+    /// A turn walks over the shard's entries once. It may block.
     ///
     /// # Errors
     ///
-    /// `Worn` where the ticket of the shard's lock stood at 2^62 or more at this call's check, and `Mem`.
+    /// `Worn` if this call's check found the ticket of the shard's lock at 2^62 or more; `Mem` out of memory.
     pub fn sweep<W: Wait>(
         &self,
         rt: &W,

@@ -36,7 +36,7 @@ module _ {V : Type 0} where
   unfolding table_of
   table-tabulated join es = refl
 
--- the pairs from a place on are the one there and those behind it
+-- the pairs from a place on are the pair there and those after it
 drop_at : {A : Type 0} (ps : List A) (i : ℕ) (p : A) → slice_get ps i ≡ Some p → drop i ps ≡ p ∷ drop (i + 1) ps
 drop_at ps i p is = drop-cons ps i p (slice_get_within ps i p is) ∙ (λ k. get_or_from_slice_get ps i p p is k ∷ drop (next k) ps)
   where
@@ -51,7 +51,7 @@ take_at ps i p is = take_more ps i p (slice_get_within ps i p is) ∙ ap (λ x. 
 pub keys_of-drop : {V : Type 0} (ps : List (List ℕ × V)) (i : ℕ) (p : List ℕ × V) → slice_get ps i ≡ Some p → keys_of (drop i ps) ≡ key_among p.0 (keys_of (drop (i + 1) ps))
 keys_of-drop ps i p is = ap keys_of (drop_at ps i p is) ∙ keys_of-cons p (drop (i + 1) ps)
 
--- what the pairs up to a place and the one there reduce to
+-- what the pairs up to a place, and the pair there, reduce to
 pub reduced-take : {V : Type 0} (join : V → V → V) (ps : List (List ℕ × V)) (i : ℕ) (p : List ℕ × V) (q : List ℕ) → slice_get ps i ≡ Some p
     → reduced join (take (i + 1) ps) q ≡ cond (eq_by_cmp key_cmp q p.0) (joined_found join (reduced join (take i ps) q) (Some p.1)) (reduced join (take i ps) q)
 reduced-take join ps i p q is = ap (λ l. reduced join l q) (take_at ps i p is) ∙ reduced_push join (take i ps) p q

@@ -26,7 +26,7 @@ first_of ((r ∷ c) ∷ cs) rs h j l =
     let back : drop (length (r ∷ c)) rs ≡ joined cs = ap (drop (length (r ∷ c))) (sym j) ∙ drop_left (r ∷ c) (joined cs) in
     λ i. sym prefix i ∷ (sym (chunks_all cs h.1) ∙ ap chunks_of (sym back)) i
 
--- the first chunk of what is left, and the chunks behind it
+-- the first chunk of what is left, and the chunks after it
 pub chunk_next : (rs : List (List ℕ)) (from size : ℕ) → from < length rs → size ≡ first_length (chunks_of (drop from rs)) → chunks_of (drop from rs) ≡ take (from + size - from) (drop from rs) ∷ chunks_of (drop (from + size) rs)
 chunk_next rs from size within is =
     let rest = length-drop from rs in

@@ -1,4 +1,4 @@
--- A walk over commands: what a step and a whole walk make of it.
+-- A walk over commands, by steps and as a whole.
 use Rattle.std.specs.Prelude.{◌≡◌, ℕ, List, Option}
 use Rattle.std.specs.declared.option.Option.TheVariants.{Some, None}
 use Rattle.record_text.specs.declared.command.Command.{Command}

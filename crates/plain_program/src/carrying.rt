@@ -35,7 +35,7 @@ impl PlainWindow {
         file_records(alloc, &self.files, &self.current)
     }
 
-    /// A leaf more, at the end; a circle keeps as many as it has places.
+    /// Adds a leaf at the end; a circle keeps as many as it has places.
     fn add_leaf(&mut self, alloc: Global, records: &Records) -> Result<(), AllocError>
         ensures { OnOk result (self.new ≡ record self.old { leaves = with_leaf self.old.kind self.old.places self.old.leaves records.now }) }
     {
@@ -50,7 +50,7 @@ impl PlainWindow {
         }
     }
 
-    /// The first leaves go, so many of those that there are.
+    /// Drops the first `gone` of the leaves.
     fn keep_from(&mut self, alloc: Global, gone: usize) -> Result<(), AllocError>
         requires { gone ≤ length self.old.leaves }
         ensures { OnOk result (self.new ≡ record self.old { leaves = drop gone self.old.leaves }) }
@@ -61,7 +61,7 @@ impl PlainWindow {
         Ok(())
     }
 
-    /// Records are added at the end of a leaf.
+    /// Adds records at the end of a leaf.
     fn add_late(&mut self, alloc: Global, place: usize, more: &Records) -> Result<(), AllocError>
         requires { place < length self.old.leaves }
         ensures { OnOk result (self.new ≡ record self.old { leaves = with_late place more.now self.old.leaves }) }
@@ -72,7 +72,7 @@ impl PlainWindow {
         Ok(())
     }
 
-    /// Another file is the current one.
+    /// Chooses the current file.
     fn select(&mut self, alloc: Global, name: &Name) -> Result<(), AllocError>
         ensures { OnOk result (self.new ≡ record self.old { current = name.now }) }
     {
@@ -80,7 +80,7 @@ impl PlainWindow {
         Ok(())
     }
 
-    /// Records of the current file are replaced.
+    /// Replaces records of the current file.
     fn edit(&mut self, alloc: Global, at: u32, del: u32, ins: &Records) -> Result<(), AllocError>
         requires { at + del ≤ length (current_records self.old) }
         ensures { OnOk result (self.new ≡ with_current self.old (spliced at del ins.now (current_records self.old))) }
@@ -90,7 +90,7 @@ impl PlainWindow {
         self.load(alloc, &records)
     }
 
-    /// The current file has these records.
+    /// Replaces all records of the current file.
     fn load(&mut self, alloc: Global, records: &Records) -> Result<(), AllocError>
         ensures { OnOk result (self.new ≡ with_current self.old records.now) }
     {
@@ -99,7 +99,7 @@ impl PlainWindow {
         self.put_file(alloc, &name, chunks)
     }
 
-    /// The file with a name has these chunks.
+    /// Gives the file with a name these chunks.
     fn put_file(
         &mut self,
         alloc: Global,

@@ -9,7 +9,7 @@ use record_text::{Name, Records};
 use std::alloc::{AllocError, Global};
 use std::cmp::Ordering;
 
-/// The records of the file with a name, or none where there is no such file.
+/// The records of the file with a name; none if there is no such file.
 pub(crate) fn file_records(
     alloc: Global,
     files: &[PlainFile],
@@ -46,7 +46,7 @@ pub(crate) fn chunks_of_files(
     Ok(chunks)
 }
 
-/// The files, where the one with a name has these chunks; without chunks it goes.
+/// The files, where the one with a name has these chunks; without chunks it is left out.
 pub(crate) fn files_with(
     alloc: Global,
     files: &[PlainFile],

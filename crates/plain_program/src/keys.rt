@@ -27,7 +27,7 @@ pub(crate) fn plain_keys<V: Drop>(alloc: Global, pairs: &Emit<V>) -> Result<Vec<
     Ok(keys)
 }
 
-/// Puts a key to its place among others in byte order, unless it is there.
+/// Inserts a key at its place among others in byte order, unless it is there.
 fn add_key(keys: &mut Vec<Key>, key: &Key) -> Result<(), AllocError>
     ensures { OnOk result (keys.new.items ≡ key_among key.now keys.old.items) }
 {

@@ -1,6 +1,6 @@
 //! The definitions as a program: what is written for a script, computed in the plainest way. Each edit cuts its file
-//! anew, each run maps all records of the window, and each key is reduced by a walk over all pairs. It is slow, takes memory for the whole script, and is
-//! there so that the real program has something to be compared with. Start at [`plain_outcome`].
+//! from nothing, each run maps all records of the window, and each key is reduced by a walk over all pairs. It is slow
+//! and takes memory for the whole script; tests compare the real program with it. Start at [`plain_outcome`].
 #![tactic(auto)]
 
 mod answering;

@@ -7,7 +7,7 @@ use record_text::{Command, ScriptFault, ScriptReader, Why};
 use slider_io::SureSource;
 use std::alloc::{AllocError, Global};
 
-/// The commands of a script, each with its line, and the fault that ends it, or none.
+/// The commands of a script, each with its line, and the fault that ends it, if any.
 #[derive(Drop)]
 pub struct PlainScript {
     pub commands: Vec<(Command, u64)>,

@@ -1,4 +1,4 @@
-//! Lists of records, put together and cut.
+//! Lists of records, joined and cut.
 ghost use Rattle.std.specs.Prelude.{◌≡◌, ◌≤◌, ◌+◌, ◌-◌, ◌++◌, take, drop, length, IfOk, OnOk};
 ghost use Rattle.marker_chunker.specs.Cuts.{chunks_of, joined};
 ghost use Rattle.chunk_store.specs.Documents.{spliced};
@@ -10,7 +10,7 @@ use std::alloc::{AllocError, Global};
 /// How many records a list may have.
 const MOST_RECORDS: usize = 4_294_967_295;
 
-/// Appends the records of a list from one place up to another. A list that is full is want of memory.
+/// Appends the records of a list from one place up to another. A full list is reported as out of memory.
 pub(crate) fn append_part(
     into: &mut Records,
     records: &Records,
@@ -32,7 +32,7 @@ pub(crate) fn append_part(
     Ok(())
 }
 
-/// Appends records. A list that is full is want of memory.
+/// Appends records. A full list is reported as out of memory.
 pub(crate) fn append_records(into: &mut Records, records: &Records) -> Result<(), AllocError>
     ensures { OnOk result (into.new ≡ into.old ++ records.now) }
 {

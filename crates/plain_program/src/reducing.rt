@@ -7,7 +7,7 @@ use job_laws::{Emit, Job, Key};
 use std::alloc::{AllocError, Global};
 use std::cmp::Ordering;
 
-/// The values of a key, joined from left to right, or none if the key has no value.
+/// The values of a key, joined from left to right; `None` if the key has no value.
 pub(crate) fn plain_reduced<J: Job>(
     alloc: Global,
     job: &J,

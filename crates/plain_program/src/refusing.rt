@@ -12,7 +12,7 @@ use record_text::{Command, Kind, Records};
 use std::alloc::{AllocError, Global};
 use window_manager::WindowFault;
 
-/// Carries out a command, or answers why it is refused. A window that refused one is not used any further.
+/// Carries out a command, or returns why it is refused. A window that refused a command is not used again.
 pub(crate) fn plain_apply<J: Job>(
     alloc: Global,
     job: &J,

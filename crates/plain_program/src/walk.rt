@@ -15,7 +15,7 @@ pub(crate) struct PlainWalk {
 }
 
 impl PlainWalk {
-    /// Before the first run, over the empty window of a kind.
+    /// The walk before the first run, over the empty window of a kind.
     pub(crate) fn new(alloc: Global, kind: Kind, places: u32) -> PlainWalk
         ensures run { result.run ≡ 1 }
         ensures window { result.window ≡ empty_window kind places }

@@ -20,7 +20,7 @@ use record_text::{Command, Kind, ScriptFault, Why};
 use std::alloc::{AllocError, Global};
 use window_manager::WindowFault;
 
-/// What was written for a script, and the fault that ended it, or none.
+/// What was written for a script, and the fault that ended it, if any.
 #[derive(Drop)]
 pub struct PlainOutcome {
     pub written: Vec<u8>,
@@ -73,7 +73,7 @@ fn walk_commands<J: Job>(
     Ok(None)
 }
 
-/// Carries out the command on a line, or answers why the window refuses it.
+/// Carries out the command on a line, or returns why the window refuses it.
 fn step<J: Job>(
     alloc: Global,
     job: &J,
@@ -95,7 +95,7 @@ fn step<J: Job>(
     }
 }
 
-/// Has the window carry out a command, or answers why it refuses it.
+/// Has the window carry out a command, or returns why it refuses it.
 fn change<J: Job>(
     alloc: Global,
     job: &J,
@@ -116,7 +116,7 @@ fn change<J: Job>(
     }
 }
 
-/// The script's fault where the window refuses the command on a line.
+/// The script's fault if the window refuses the command on a line.
 fn fault_of(line: u64, refused: WindowFault) -> ScriptFault
     requires line { line < 2 ^ 62 }
     ensures { ended_by line refused ≡ Faulty result.line result.why }

@@ -21,7 +21,7 @@ impl Model for PlainFile {
     ghost view = { λ f. (f.name, f.chunks.items) };
 }
 
-/// What a window holds, seen as the definitions see it.
+/// What a window holds, modelled as in the definitions.
 #[derive(Drop)]
 pub(crate) struct PlainWindow {
     pub(crate) kind: Kind,

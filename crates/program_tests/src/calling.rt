@@ -1,4 +1,4 @@
-//! Calls of the program over devices in memory, and of the plain program beside it.
+//! Calls of the program over devices in memory, and of the plain program.
 
 use job_laws::{CountMeter, Job, JobSet};
 use plain_program::plain_outcome;
@@ -10,7 +10,7 @@ use std::alloc::{AllocError, Global};
 use std::sync::Wait;
 use std::thread::Threads;
 
-/// What a run of the program wrote, said and answered.
+/// What a run of the program wrote to `out` and `err`, and its status.
 #[derive(Drop, PartialEq, Eq)]
 pub struct Ran {
     pub out: Vec<u8>,
@@ -19,7 +19,7 @@ pub struct Ran {
 }
 
 impl Ran {
-    /// Whether this was written, said and answered.
+    /// Whether it wrote this to `out` and `err`, and ended with this status.
     pub fn is(&self, out: &[u8], err: &[u8], status: u8) -> bool {
         self.out.as_slice() == out && self.err.as_slice() == err && self.status == status
     }
@@ -30,12 +30,12 @@ pub fn basic_jobs() -> BasicJobs<CountMeter> {
     BasicJobs::<CountMeter>::new()
 }
 
-/// The words `--job count --tree coalescing`.
+/// The arguments `--job count --tree coalescing`.
 pub fn count_words(alloc: Global) -> Result<Vec<String>, AllocError> {
     words(alloc, "--job count --tree coalescing")
 }
 
-/// The words of a line, split at its spaces.
+/// The arguments in a line, split at its spaces.
 pub fn words(alloc: Global, line: &str) -> Result<Vec<String>, AllocError> {
     let mut words = Vec::new(alloc);
     for word in line.split(' ') {
@@ -75,7 +75,8 @@ pub fn run<Q: Threads + Wait + Sync>(
     })
 }
 
-/// Whether the program, counting words, writes this, says this and answers this, and the plain one too.
+/// Whether the program, counting words, writes this to `out` and `err` and ends with this status, and the plain one
+/// too.
 pub fn gives<Q: Threads + Wait + Sync>(
     rt: &Q,
     alloc: Global,
@@ -88,7 +89,7 @@ pub fn gives<Q: Threads + Wait + Sync>(
     both_give(rt, alloc, words.as_slice(), script, out, err, status)
 }
 
-/// Whether the program, called with the words of a line, writes this and says this, and the plain one too.
+/// Whether the program, called with the arguments in a line, writes this to `out` and `err`, and the plain one too.
 pub fn line_gives<Q: Threads + Wait + Sync>(
     rt: &Q,
     alloc: Global,
@@ -102,7 +103,7 @@ pub fn line_gives<Q: Threads + Wait + Sync>(
     both_give(rt, alloc, words.as_slice(), script, out, err, status)
 }
 
-/// Whether the program writes, says and answers this with these words, and the plain one too.
+/// Whether the program writes this and ends with this status for these arguments, and the plain one too.
 fn both_give<Q: Threads + Wait + Sync>(
     rt: &Q,
     alloc: Global,
@@ -133,7 +134,8 @@ pub fn around(
     Ok(bytes)
 }
 
-/// What the plain program writes for a script over a window, of which a circle has so many places, and says of its fault.
+/// What the plain program writes for a script over a window, where a circle has `places` places, and the line of its
+/// fault.
 pub fn serve_plainly<J: Job<Meter = CountMeter>>(
     alloc: Global,
     job: J,
@@ -156,7 +158,7 @@ pub fn serve_plainly<J: Job<Meter = CountMeter>>(
     })
 }
 
-/// What the plain program does where the program is called with these words; nothing but status 2 where they are refused.
+/// What the plain program does for these arguments; only the status 2 if they are refused.
 pub fn run_plainly(alloc: Global, words: &[String], script: &[u8]) -> Result<Ran, AllocError> {
     let Ok(plan) = read_words(alloc, words) else {
         return Ok(Ran {

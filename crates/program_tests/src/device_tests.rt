@@ -1,4 +1,4 @@
-//! Devices that fail, and words that are refused before any device is touched.
+//! Devices that fail, and arguments that are refused before any device is touched.
 
 use crate::calling::{Ran, basic_jobs, count_words, words};
 use slider_io::{MemSink, MemSource, NoGate, Source, SureSink, SureSource};
@@ -7,8 +7,8 @@ use std::alloc::{AllocError, Global};
 use std::sync::Wait;
 use std::thread::Threads;
 
-/// Whether words that pair `latest` with the tree `rotating` are refused with this on `err`, which may fail at its first
-/// call, and leave the source and `out` alone.
+/// Whether arguments that pair `latest` with the tree `rotating` are refused with this on `err`, which may fail at its
+/// first call, and leave the source and `out` untouched.
 fn refuses_the_pairing<Q: Threads + Wait + Sync>(
     rt: &Q,
     alloc: Global,
@@ -51,8 +51,8 @@ fn latest_refuses_the_rotating_tree(rt: HostRuntime) -> Result<(), AllocError> {
     Ok(())
 }
 
-/// Runs a script, with these words, over devices of one byte a call that fail at these calls, and answers what was written
-/// and the status.
+/// Runs a script, with these arguments, over devices that move one byte at each call and fail at these calls, and
+/// returns what was written and the status.
 fn run_failing<Q: Threads + Wait + Sync>(
     rt: &Q,
     alloc: Global,

@@ -1,4 +1,4 @@
-//! Gates that hold a task back until another one is under way.
+//! Gates that hold a task back until another one is in progress.
 
 use crate::calling::{basic_jobs, words};
 use slider_io::{Gate, SureSink, SureSource};
@@ -9,7 +9,7 @@ use std::sync::atomic::{AtomicBool, Ordering};
 use std::thread;
 use std::thread::Threads;
 
-/// Holds task 0 back until a thread has passed another task, for 10,000,000 turns at most.
+/// Holds task 0 back until a thread has passed another task, for at most 10,000,000 turns.
 #[derive(Drop)]
 struct HoldsFirst {
     until: u64,
@@ -52,7 +52,7 @@ impl Gate for HoldsFirst {
     }
 }
 
-/// Whether two workers, who count the words of one bucket behind a gate, come past it in time and write what one does.
+/// Whether two workers, counting the words of one bucket behind a gate, pass it in time and write what one worker does.
 fn passes_in_time<Q: Threads + Wait + Sync>(
     rt: &Q,
     alloc: Global,

@@ -28,7 +28,7 @@ struct Served {
     fault: String,
 }
 
-/// Serves a script in trees of a kind, over a window of which a circle has so many places.
+/// Serves a script in trees of a kind, over a window, where a circle has `places` places.
 fn served_in<
     J: Job<Meter = CountMeter, Val: Send + Sync> + Send + Sync,
     T: Tree<J> + Send,
@@ -68,7 +68,7 @@ fn served_in<
     Ok(Served { out, fault })
 }
 
-/// Counts the words of a script over a circle of so many places, by the program.
+/// Counts the words of a script over a circle of `places` places, by the program.
 fn circled<R: Threads + Wait + Sync>(
     rt: &R,
     alloc: Global,
@@ -89,7 +89,7 @@ fn circled<R: Threads + Wait + Sync>(
     }
 }
 
-/// Counts the words of a script over a window of a kind, of which a circle has so many places.
+/// Counts the words of a script over a window of a kind, where a circle has `places` places.
 fn counted<R: Threads + Wait + Sync>(
     rt: &R,
     alloc: Global,
@@ -114,7 +114,7 @@ fn counted<R: Threads + Wait + Sync>(
     }
 }
 
-/// The commands that scripts are made of: of all kinds, and so some that a window lacks.
+/// The commands that scripts are made of: of all kinds, so a window lacks some of them.
 const COMMANDS: [&[u8]; 16] = [
     b"run\n",
     b"bucket 2\na b\nc\n",
@@ -134,8 +134,8 @@ const COMMANDS: [&[u8]; 16] = [
     b"load 0\n",
 ];
 
-/// A script of so many of these commands, from the one numbered `from` on up to `to`, drawn from a number by a linear
-/// congruential generator modulo 2^64.
+/// A script of a number of these commands, from number `from` up to `to`, drawn by a linear congruential generator
+/// modulo 2^64.
 fn script_from(alloc: Global, seed: u64, from: u64, to: u64) -> Result<Vec<u8>, AllocError> {
     let mut script = Vec::new(alloc);
     let mut state = seed.wrapping_add(1);

@@ -1,5 +1,5 @@
-//! Scripts over the program, each with what it is to write, and the program beside the plain one over scripts that are
-//! made from numbers. There are tests alone, above the program, so that building it proves none of them.
+//! Tests of the program on whole scripts, with expected output, and compared with the plain program on scripts that are
+//! made from numbers. They are a crate above the program, so that building the program proves none of them.
 #![tactic(auto)]
 
 #[cfg(test)]

@@ -1,4 +1,4 @@
-//! The program beside the plain one, over scripts that are made from numbers.
+//! The program compared with the plain one, over scripts that are made from numbers.
 
 use crate::calling::{run, run_plainly, words};
 use std::alloc::{AllocError, Global};
@@ -25,7 +25,7 @@ const PIECES: [&[u8]; 16] = [
     b"stop\n",
 ];
 
-/// A script of so many pieces, drawn from a number by a linear congruential generator modulo 2^64.
+/// A script of a number of pieces, drawn by a linear congruential generator modulo 2^64.
 fn script_from(alloc: Global, seed: u64, pieces: usize, kinds: u64) -> Result<Vec<u8>, AllocError> {
     let mut script = Vec::new(alloc);
     let mut state = seed.wrapping_add(1);

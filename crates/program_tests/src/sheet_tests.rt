@@ -20,7 +20,7 @@ fn all_accepted<J: Job>(job: &J, records: &Records) -> bool
     true
 }
 
-/// The sheet of records in one part; an empty one where the job does not accept them all.
+/// The sheet of records in one part; an empty one if the job does not accept them all.
 fn sheet_of<J: Job>(
     alloc: Global,
     job: &J,

@@ -1,4 +1,4 @@
-//! Single scripts, over devices in memory: the smallest ones, the limits of form, and refused words.
+//! Single scripts, over devices in memory: the smallest ones, the limits of form, and refused arguments.
 
 use crate::calling::{around, gives, run, words};
 use std::alloc::AllocError;

@@ -5,7 +5,7 @@ use std::alloc::{AllocError, Global};
 use std::sync::Wait;
 use std::thread::Threads;
 
-/// Whether the program, counting words over a tree, says this of a script, and writes nothing.
+/// Whether the program, counting words over a tree, writes this to `err` for a script, and nothing to `out`.
 fn tree_says<Q: Threads + Wait + Sync>(
     rt: &Q,
     alloc: Global,

@@ -1,11 +1,12 @@
-//! The work lines of scripts: what each run maps anew and merges, over each kind of window.
+//! The work lines of scripts: what each run maps again and merges, over each kind of window.
 
 use crate::calling::{around, run, run_plainly, words};
 use std::alloc::{AllocError, Global};
 use std::sync::Wait;
 use std::thread::Threads;
 
-/// Whether the program, called with the words of a line, writes this and says this work, and the plain one writes the same.
+/// Whether the program, called with the arguments in a line, writes this and these work lines, and the plain one writes
+/// the same.
 fn line_works<Q: Threads + Wait + Sync>(
     rt: &Q,
     alloc: Global,
@@ -81,7 +82,7 @@ fn a_late_record_changes_one_path(rt: HostRuntime) -> Result<(), AllocError> {
     Ok(())
 }
 
-/// The record of 40,000 bytes that scripts begin a document with, twice, behind `load 3`; `x` is the third.
+/// The record of 40,000 bytes that scripts begin a document with, twice, after `load 3`; `x` is the third.
 fn loaded(alloc: Global) -> Result<Vec<u8>, AllocError> {
     let first = around(alloc, b"load 3\n", b'-', 40_000, b"\n")?;
     around(alloc, first.as_slice(), b'-', 40_000, b"\nx\nrun\n")

@@ -1,11 +1,11 @@
--- What the words ask for, by their options.
+-- What the arguments ask for, by their options.
 use Rattle.std.proofs.Common.{◌≡◌, true, false, refl, sym, ap, true≢false, List, Option, Some, None, Err}
 use Rattle.std.specs.Prelude.{is_some}
 use Rattle.program_words.specs.declared.plan.Field.TheVariants as fields
 use Rattle.program_words.specs.WellFormed.{Text, Item, items_of}
 use Rattle.program_words.specs.Plans.{Given, demand, given_by, plan_by, plan_of}
 
--- words that are not well formed
+-- arguments that are not well formed
 pub plan_of-none : (words : List Text) → is_some (items_of words) ≡ false → plan_of words ≡ Err fields.Words
 unfolding plan_of
 plan_of-none words none = at (items_of words) none
@@ -14,7 +14,7 @@ plan_of-none words none = at (items_of words) none
     at None none = refl
     at (Some items) none = absurd (true≢false none)
 
--- words that are well formed, and give these values
+-- arguments that are well formed, and give these values
 pub plan_of-some : (words : List Text) (values : Given) → is_some (items_of words) ≡ true → ((items : List Item) → items_of words ≡ Some items → values ≡ given_by items) → plan_of words ≡ plan_by values
 unfolding plan_of
 plan_of-some words values some given = at (items_of words) some given

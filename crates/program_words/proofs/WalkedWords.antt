@@ -17,7 +17,7 @@ use Rattle.program_words.specs.Options.{slider_app}
 
 -- ---- small facts
 
--- a list that is there where a test failed, or where it passed
+-- a list that is there if a test failed, or if it passed
 taken : {A : Type 0} (b : Bool) (o : Option A) (x : A) → cond b None o ≡ Some x → (b ≡ false) × (o ≡ Some x)
 taken true o x e = absurd (true≢false (ap is_some (sym e)))
 taken false o x e = (refl, e)
@@ -41,7 +41,7 @@ not_true false e = refl
 same_text : (a b : Text) → bytes_eq a b ≡ true → a ≡ b
 same_text a b e = (bytes_eq-Decides a b).0 e
 
--- the items behind the first one
+-- the items after the first one
 rest_of : (name : Text) (value : Option Text) (o : Option (List Item)) (items : List Item) → with_item name value o ≡ Some items → (rest : List Item) × (o ≡ Some rest) × (items ≡ (name, value) ∷ rest)
 rest_of name value None items e = absurd (true≢false (ap is_some (sym e)))
 rest_of name value (Some rest) items e = (rest, refl, sym (ap (λ (o : Option (List Item)). unwrap_or o []) e))
@@ -103,7 +103,7 @@ rule_by_long flag name kind named = by_long all_names name named ∙ ap (λ b. S
 rule_by_id : (flag : Bool) (name : Text) → is_flag name ≡ flag → is_named name ≡ true → arg_by_id rules name ≡ Some (rule_with flag name)
 rule_by_id flag name kind named = by_id all_names name named ∙ ap (λ b. Some (rule_with b name)) kind
 
--- what may stand is an option or a flag without a value
+-- what is allowed is an option, or a flag without a value
 left_or_right : (a b : Bool) → (a ≡ true) ⊎ (b ≡ true) → (a || b) ≡ true
 left_or_right true b one = refl
 left_or_right false b (inl is) = absurd (true≢false (sym is))
@@ -184,9 +184,9 @@ used_flag : (name : Text) (items : List Item) → is_flag name ≡ true → is_m
     → used (rule_with true name) [] (rows_for items) ≡ rows_for (items ++ (name, None) ∷ [])
 used_flag name items kind new = row_added true name None items kind new
 
--- ---- a word
+-- ---- an argument
 
--- a word that begins an option is a long option to `clap`
+-- an argument that begins an option is a long option to `clap`
 named_some : is_named [] ≡ true → ⊥
 named_some is = true≢false (sym is)
 
@@ -210,7 +210,7 @@ long_is (a ∷ b ∷ text) o is named =
         → (option_and_then long_of_rest (cond s (Some t) None) ≡ Some o) × ((s && bytes_eq t []) ≡ false))
         [ true ↦ tail t | false ↦ λ e. absurd (true≢false (ap is_some (sym e))) ]
 
--- a word that does not begin with a dash is no flag to `clap`
+-- an argument that does not begin with a dash is no flag to `clap`
 no_flag : (word : Text) → begins_with_dash word ≡ false → (bytes_eq word (45 ∷ 45 ∷ []) ≡ false) × (long_of word ≡ None) × (short_of word ≡ None)
 no_flag [] plain = (refl, refl, refl)
 no_flag (b ∷ bs) plain = (rw plain refl, rw plain refl, rw plain refl)
@@ -220,7 +220,7 @@ no_flag (b ∷ bs) plain = (rw plain refl, rw plain refl, rw plain refl)
 abbrev at : Waiting → Held → Walk
 at waiting held = record { held = held; waiting = waiting; position = 1; is_trailing = false; stopped = None }
 
--- an option or a flag where none waits for its value
+-- an option or a flag when none waits for its value
 met_long : (flag : Bool) (word name : Text) (value : Option Text) (h : Held) → option_in word ≡ Some (name, value) → is_flag name ≡ flag → is_named name ≡ true
     → word_met rules [] false idle 1 word h ≡ after_flag rules idle word (long_met rules (Some (rule_with flag name)) value h).0 (long_met rules (Some (rule_with flag name)) value h).1
 met_long flag word name value h is kind named =
@@ -265,7 +265,7 @@ step_value word name rows skip plain kind named =
 
 -- ---- the walk over a well formed list
 
--- what the walk over these words comes to, from where the items before them were read
+-- what the walk over these arguments comes to, after the items before them
 abbrev EndsWith : Walk → List Text → List Item → Type 0
 EndsWith w words items = settled_rows rules (fold (walked rules []) w words).held.pending (fold (walked rules []) w words).held.rows ≡ rows_for items
 
@@ -284,7 +284,7 @@ no_words = record {
   waiting = λ name rows skip done items same kind named new is. absurd (true≢false (ap is_some (sym is)));
 }
 
--- an item that is whole: the walk goes on behind it
+-- a whole item, after which the walk goes on
 one_item : (word name : Text) (value : Option Text) (rest : List Text) (w : Walk) (h : Held) (done items : List Item) → Walks rest → walked rules [] w word ≡ at idle h
     → settled_rows rules h.pending h.rows ≡ rows_for (done ++ (name, value) ∷ [])
     → with_item name value (scan (names_of_items done ++ name ∷ []) None rest) ≡ Some items → EndsWith w (word ∷ rest) (done ++ items)
@@ -322,7 +322,7 @@ first_word word name rest h done items walks held is kind named new scanned =
     ap (λ (w : Walk). settled_rows rules (fold (walked rules []) w rest).held.pending (fold (walked rules []) w rest).held.rows) (step_without word name h is kind named)
     ∙ walks.waiting name (settled_rows rules h.pending h.rows) h.skip done items held kind named new scanned
 
--- an option's value in a word of its own
+-- an option's value in an argument of its own
 value_word : (word name : Text) (rest : List Text) (rows : List Row) (skip : ℕ) (done items : List Item) → Walks rest → rows ≡ rows_for done → begins_with_dash word ≡ false
     → is_flag name ≡ false → is_named name ≡ true → is_met (names_of_items done) name ≡ false
     → with_item name (Some word) (scan (names_of_items done ++ name ∷ []) None rest) ≡ Some items → EndsWith (at (option name) (waits name [] rows skip)) (word ∷ rest) (done ++ items)
@@ -332,7 +332,7 @@ value_word word name rest rows skip done items walks same plain kind named new s
     ∙ ap (λ (rs : List Row). used (rule_with false name) (word ∷ []) rs) same ∙ used_option name word done kind new in
     one_item word name (Some word) rest (at (option name) (waits name [] rows skip)) (waits name (word ∷ []) rows skip) done items walks (step_value word name rows skip plain kind named) held scanned
 
--- the option or flag that a word begins
+-- the option or flag that an argument begins
 begins : (word : Text) (rest : List Text) (h : Held) (done items : List Item) (o : Option (Text × Option Text)) → Walks rest → settled_rows rules h.pending h.rows ≡ rows_for done
     → option_in word ≡ o → met_option (names_of_items done) o (λ more waiting. scan more waiting rest) ≡ Some items → EndsWith (at idle h) (word ∷ rest) (done ++ items)
 begins word rest h done items None walks held is scanned = absurd (true≢false (ap is_some (sym scanned)))
@@ -380,7 +380,7 @@ no_defaults (n ∷ names) more rows options =
     ∙ elim (has_row n rows) as (λ b. cond b rows rows ≡ rows) [ true ↦ refl | false ↦ refl ] in
     ap (λ (r : List Row). fold with_default r (map rule_for (names ++ more))) same ∙ no_defaults names more rows parts.1
 
--- the row of the flag where it is not given
+-- the row of the flag if it is not given
 abbrev work : Text
 work = codes "work"
 
@@ -476,7 +476,7 @@ flag_found words items is =
     ap (one_of work) (matches_are words items is) ∙ flag_row items (cond (is_given items work) [] (default_row ∷ [])) ∙ elim (is_given items work) as (λ b.
     cond b (Some (codes "true")) (one_of work (cond b [] (default_row ∷ []))) ≡ Some (cond b (codes "true") (codes "false"))) [ true ↦ refl | false ↦ refl ]
 
--- what is read of the flag says whether it stands
+-- what is read of the flag says whether it is given
 pub flag_read : (words : List Text) (items : List Item) (text : Option Text) (read : Bool) → text ≡ one_of work (matches_of slider_app words) → items_of words ≡ Some items
     → (text ≡ Some (codes "true") → read ≡ true) → (text ≡ Some (codes "false") → read ≡ false) → read ≡ is_given items work
 flag_read words items text read found is stands lacks = at (is_given items work) (found ∙ flag_found words items is)

@@ -1,4 +1,4 @@
--- What the words of the command line ask for, and what they are refused for.
+-- What the arguments ask for, and what they are refused for.
 use Rattle.std.specs.Prelude.{◌≡◌, ◌≤◌, ℕ, Bool, true, false, ◌&&◌, if◌then◌else◌, nat_le, List, codes, bytes_eq, Option, option_map, Result, Ok, Err}
 use Rattle.std.specs.declared.option.Option.TheVariants.{Some, None}
 use Rattle.definitions.specs.Limits.{most_members, most_parts, most_places}
@@ -35,32 +35,33 @@ tree_named name =
     else if bytes_eq name (codes "coalescing") then Some trees.Coalescing
     else None
 
--- The number from `least` to `most` that a text is.
+-- The number that a text spells, if it is from `least` to `most`.
 abbrev pub number_within : ℕ → ℕ → Text → Option ℕ
 number_within least most text =
     if is_number text && nat_le least (digits_value text) && nat_le (digits_value text) most then Some (digits_value text) else None
 
--- The number from `least` to `most` that a value is, or the default where none is given.
+-- The number that a value spells, if it is from `least` to `most`; the default if no value is given.
 abbrev pub number_or : ℕ → ℕ → ℕ → Option Text → Option ℕ
 number_or default least most None = Some default
 number_or default least most (Some text) = number_within least most text
 
--- The seed that a value is, or that there is none.
+-- The seed that a value spells, or no seed if no value is given.
 abbrev pub seed_or_none : Option Text → Option (Option ℕ)
 seed_or_none None = Some None
 seed_or_none (Some text) = if is_number text then Some (Some (digits_value text)) else None
 
--- What a value that must be given is in its table.
+-- What a required value names in its table.
 abbrev pub given : {A : Type 0} → (Text → Option A) → Option Text → Option A
 given named None = None
 given named (Some name) = named name
 
--- `latest` takes the last of its values in the window's order, and a rotating tree joins them in the order of their places.
+-- The tree joins in another order than the job needs: `latest` takes the last value in the window's order, and a
+-- rotating tree joins in the order of places.
 abbrev pub joins_out_of_order : JobName → TreeName → Bool
 joins_out_of_order jobs.Latest trees.Rotating = true
 joins_out_of_order job tree = false
 
--- What is there, or the refusal of its field.
+-- What is given, or the refusal of its field.
 abbrev pub demand : {A B : Type 0} → Field → Option A → (A → Result B Field) → Result B Field
 demand field None next = Err field
 demand field (Some found) next = next found
@@ -70,7 +71,7 @@ abbrev pub accepted : {A B : Type 0} → Result A Field → (A → Result B Fiel
 accepted (Err field) next = Err field
 accepted (Ok found) next = next found
 
--- The values of the options, where they are given, and whether the flag stands.
+-- The values of the options that are given, and whether the flag is.
 pub record Given : Type 0 where
   pub job : Option Text
   pub k : Option Text
@@ -83,7 +84,7 @@ pub record Given : Type 0 where
   pub generate : Option Text
   pub work : Bool
 
--- What the values say of how the script is worked, or the first field that is refused.
+-- The settings that the values ask for, or the first field that is refused.
 abbrev pub settings_by : Given → Result Settings Field
 settings_by v =
     demand fields.Buckets (number_or 24 1 most_places v.buckets) (λ places.
@@ -128,7 +129,7 @@ given_by items = record {
   work = is_given items (codes "work");
 }
 
--- What the words ask for, or the first field that is refused.
+-- What the arguments ask for, or the first field that is refused.
 unfoldable pub plan_of : List Text → Result Plan Field
 plan_of words = demand fields.Words (items_of words) (λ items. plan_by (given_by items))
 

@@ -1,4 +1,4 @@
--- The line for words that are refused.
+-- The line for arguments that are refused.
 use Rattle.std.specs.Prelude.{◌≡◌, List, ℕ, ◌++◌, codes, Result, Err}
 use Rattle.program_words.specs.declared.plan.Plan.{Plan}
 use Rattle.program_words.specs.declared.plan.Field.{Field}
@@ -23,7 +23,7 @@ usage_word Gen = codes "gen"
 abbrev pub line_for : Field → List ℕ
 line_for field = codes "usage " ++ usage_word field ++ codes "\n"
 
--- A refusal is the one that the words deserve; want of memory may come at any time.
+-- A refusal is the first one in order; out of memory may come at any time.
 abbrev pub IsRefusalOf : Result Plan Field → WordsFault → Type 0
 IsRefusalOf asked (Usage field) = asked ≡ Err field
 IsRefusalOf asked Mem = Unit {0}

@@ -1,4 +1,4 @@
-//! The values of the options of the command line, as `clap` reads them, and the plan that the words ask for.
+//! The values of the options of the command line, as `clap` reads them, and the plan that the arguments ask for.
 ghost use Rattle.std.specs.Prelude.{◌≡◌, List, IfErr, IfOk, Ok, Some, false, map, string_bytes};
 ghost use Rattle.clap.specs.Words.{app_of, rule_of};
 ghost use Rattle.program_words.specs.WellFormed.{Item, items_of};
@@ -37,8 +37,8 @@ fn bare_command<'a>(alloc: Global) -> Command<'a>
         .disable_help_flag(true)
 }
 
-/// The command of the options that take one value, and of the flag. It has no positional, no help flag, no default and no
-/// relation between options.
+/// The command with the options, which take one value each, and the flag. It has no positional argument, no help flag,
+/// no default, and no relation between options.
 fn command<'a>(alloc: Global) -> Result<Command<'a>, AllocError>
     ensures { IfOk result (λ command. app_of command ≡ slider_app) }
 {
@@ -55,7 +55,7 @@ fn command<'a>(alloc: Global) -> Result<Command<'a>, AllocError>
         .arg(flag(alloc, "work"))
 }
 
-/// The values that a well formed list gives the options, and whether it has the flag.
+/// The values of the options in a well formed list, and whether it has the flag.
 fn values_of<'a>(alloc: Global, words: &'a [String]) -> Result<Values<'a>, Error>
     ensures { (items : List Item) → items_of (map string_bytes words.entry.now) ≡ Some items → IfOk result (λ values. values_as_text values ≡ given_by items) }
 {
@@ -75,9 +75,10 @@ fn values_of<'a>(alloc: Global, words: &'a [String]) -> Result<Values<'a>, Error
     })
 }
 
-/// Reads the words of the command line: what they ask for, or the first field that they are refused for, in the order
-/// words, job, k, tree, buckets, parts, workers, shards, keep, gen, and last tree for the pairing that the job refuses. Only a
-/// well formed list goes to `clap`, whose refusal of one can only be want of memory.
+/// Reads the arguments: what they ask for, or the first field that they are refused for, in the order words, job, k,
+/// tree, buckets, parts, workers, shards, keep, gen, and last tree, for a tree that the job cannot be used with. Only a
+/// well formed list goes to `clap`; if `clap` refuses it, that is reported as out of memory. It walks the arguments
+/// once.
 pub fn read_words(alloc: Global, words: &[String]) -> Result<Plan, WordsFault>
     ensures accepted { IfOk result (λ plan. plan_of (map string_bytes words.now) ≡ Ok plan) }
     ensures within { IfOk result IsWithin }

@@ -1,4 +1,4 @@
-//! What the words of the command line ask for.
+//! What the arguments ask for.
 ghost use Rattle.std.specs.Prelude.{◌≡◌, ◌≤◌, IfOk, IfSome, option_map};
 ghost use Rattle.run_settings.specs.Settings.{AreWithin};
 ghost use Rattle.program_words.specs.Plans.{job_named, tree_named, number_within, number_or, seed_or_none, settings_by, joins_out_of_order, plan_by, values_as_text, kind_of, IsWithin};
@@ -39,29 +39,29 @@ impl TreeName {
     }
 }
 
-/// What the words of the command line ask for. An option that is not given has its default.
+/// What the arguments ask for. An option that is not given has its default.
 #[derive(Clone, Copy, Debug, PartialEq, Eq)]
 pub struct Plan {
     pub job: JobName,
     /// How many members `topk` keeps, from 1 to [`MOST_MEMBERS`].
     pub k: u32,
     pub tree: TreeName,
-    /// How the script is worked. `places` is the number of `--buckets`.
+    /// How the script is processed. `places` is the value of `--buckets`.
     pub settings: Settings,
-    /// Whether the script is generated, and from which number.
+    /// The number from which the script is generated, if it is.
     pub seed: Option<u32>,
-    /// Whether the answer is ranked by its counts.
+    /// Whether the answer is ranked by its counts. Not used yet.
     pub then: bool,
 }
 
-/// What the words of the command line are refused for.
+/// What the arguments are refused for.
 #[derive(Clone, Copy, Debug, PartialEq, Eq)]
 pub enum Field {
     /// They are not well formed.
     Words,
     Job,
     K,
-    /// The tree's name, or the job's own refusal of the tree.
+    /// The name of the tree, or that the job cannot be used with it.
     Tree,
     Buckets,
     Parts,
@@ -71,7 +71,7 @@ pub enum Field {
     Gen,
 }
 
-/// The values that the words give, each as it stands there, and whether they have the flag.
+/// The values that the arguments give, each as it is written, and whether they have the flag.
 #[derive(Clone, Copy, Debug, PartialEq, Eq)]
 pub struct Values<'a> {
     pub job: Option<&'a str>,
@@ -112,7 +112,7 @@ fn tree_named(name: &str) -> Option<TreeName>
     }
 }
 
-/// The number from `least` to `most` that a text is.
+/// The number that a text spells, if it is from `least` to `most`.
 fn number_within(least: u32, most: u32, text: &str) -> Option<u32>
     ensures number { result ≡ number_within least most text.now }
     ensures within { IfSome result (λ n. (least ≤ n) × (n ≤ most)) }
@@ -123,7 +123,7 @@ fn number_within(least: u32, most: u32, text: &str) -> Option<u32>
     }
 }
 
-/// The number from `least` to `most` that a value is, or `default` where none is given.
+/// The number that a value spells, if it is from `least` to `most`; `default` if no value is given.
 fn number_or(default: u32, least: u32, most: u32, value: Option<&str>) -> Option<u32>
     requires { (least ≤ default) × (default ≤ most) }
     ensures number { result ≡ number_or default least most (option_map (λ text. text.now) value.entry) }
@@ -135,7 +135,7 @@ fn number_or(default: u32, least: u32, most: u32, value: Option<&str>) -> Option
     }
 }
 
-/// The seed that a value is, or that there is none.
+/// The seed that a value spells, or no seed if no value is given.
 fn seed_or_none(value: Option<&str>) -> Option<Option<u32>>
     ensures { result ≡ seed_or_none (option_map (λ text. text.now) value.entry) }
 {
@@ -145,7 +145,7 @@ fn seed_or_none(value: Option<&str>) -> Option<Option<u32>>
     }
 }
 
-/// What the values say of how the script is worked, or the first of them that is refused: no number, or past its limits.
+/// The settings that the values ask for, or the first value that is refused: it is no number, or outside its limits.
 fn settings_by(values: &Values<'_>) -> Result<Settings, Field>
     ensures settings { result ≡ settings_by (values_as_text values.now) }
     ensures within { IfOk result AreWithin }
@@ -176,16 +176,17 @@ fn settings_by(values: &Values<'_>) -> Result<Settings, Field>
     })
 }
 
-/// Whether the tree joins in another order than the job needs: `latest` takes the last value in the window's order, and the
-/// root of `rotating` joins the buckets in the order of their places.
+/// Whether the tree joins in another order than the job needs: `latest` takes the last value in the window's order, and
+/// `rotating` joins buckets in the order of their places.
 fn joins_out_of_order(job: JobName, tree: TreeName) -> bool
     ensures { result ≡ joins_out_of_order job tree }
 {
     job == JobName::Latest && tree == TreeName::Rotating
 }
 
-/// What the values ask for, or the first of them that is refused: one that must be given and is not, one that is not of
-/// its table, no number, or past its limits. Last, a tree is refused that joins in another order than the job needs.
+/// The plan that the values ask for, or the first value that is refused: it is required and missing, it is not in its
+/// table, it is no number, or it is outside its limits. Last, a tree is refused that joins in another order than the
+/// job needs.
 pub fn plan_by(values: Values<'_>) -> Result<Plan, Field>
     ensures plan { result ≡ plan_by (values_as_text values.entry) }
     ensures within { IfOk result IsWithin }

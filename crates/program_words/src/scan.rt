@@ -1,11 +1,11 @@
-//! Whether the words of the command line are well formed.
+//! Whether the arguments are well formed.
 ghost use Rattle.std.specs.Prelude.{◌≡◌, ◌&&◌, List, ℕ, ◌∷◌, IfOk, Some, map, is_some, option_map, string_bytes};
 ghost use Rattle.program_words.specs.WellFormed.{is_stray, begins_with_dash, is_option, is_flag, may_stand, is_met, behind_dashes, name_and_value, as_texts, met_option, scan, items_of};
 
 use memchr::memchr;
 use std::alloc::{AllocError, Global};
 
-/// Whether a word stands nowhere: it is empty, `-` or `--`, or ends in `=`.
+/// Whether an argument is allowed nowhere: it is empty, `-` or `--`, or ends in `=`.
 fn is_stray(word: &[u8]) -> bool
     ensures { result ≡ is_stray word.now }
 {
@@ -15,7 +15,7 @@ fn is_stray(word: &[u8]) -> bool
     }
 }
 
-/// Whether a word begins with `-`.
+/// Whether an argument begins with `-`.
 fn begins_with_dash(word: &[u8]) -> bool
     ensures { result ≡ begins_with_dash word.now }
 {
@@ -25,7 +25,7 @@ fn begins_with_dash(word: &[u8]) -> bool
     }
 }
 
-/// Whether a name is that of an option that takes a value. Names are not shortened.
+/// Whether a name is that of an option that takes a value. Names cannot be shortened.
 #[tactic(auto, unfolding(crate::specs::WellFormed::is_option))]
 fn is_option(name: &[u8]) -> bool
     ensures { result ≡ is_option name.now }
@@ -49,7 +49,7 @@ fn is_flag(name: &[u8]) -> bool
     name == b"work".as_slice()
 }
 
-/// Whether a name is that of a flag, with no value in its word, or that of an option.
+/// Whether a name is that of a flag, with no value in its argument, or that of an option.
 fn may_stand(name: &[u8], value: Option<&[u8]>) -> bool
     ensures { result ≡ may_stand name.now (option_map (λ n. n.now) value.entry) }
 {
@@ -60,7 +60,7 @@ fn may_stand(name: &[u8], value: Option<&[u8]>) -> bool
     }
 }
 
-/// What stands behind the two dashes that a word begins with.
+/// What comes after the two dashes that an argument begins with.
 fn behind_dashes(word: &[u8]) -> Option<&[u8]>
     ensures { option_map (λ text. text.now) result ≡ behind_dashes word.now }
 {
@@ -76,7 +76,7 @@ fn behind_dashes(word: &[u8]) -> Option<&[u8]>
     }
 }
 
-/// What stands before the first `=`, and what stands behind it where there is one.
+/// What comes before the first `=`, and what comes after it if there is one.
 fn name_and_value(text: &[u8]) -> (&[u8], Option<&[u8]>)
     ensures { as_texts result ≡ name_and_value text.now }
 {
@@ -86,7 +86,7 @@ fn name_and_value(text: &[u8]) -> (&[u8], Option<&[u8]>)
     }
 }
 
-/// Whether a name is among those that were met.
+/// Whether a name was met before.
 fn is_met(names: &[&[u8]], name: &[u8]) -> bool
     ensures { result ≡ is_met (map (λ n. n.now) names.now) name.now }
 {
@@ -98,17 +98,17 @@ fn is_met(names: &[&[u8]], name: &[u8]) -> bool
     false
 }
 
-/// What was read of the words.
+/// The arguments read so far.
 #[derive(Drop)]
 struct Scan<'a> {
     /// The names of the options and flags that were met, in their order.
     names: Vec<&'a [u8]>,
-    /// The option whose value the next word is.
+    /// The option whose value the next argument is.
     waiting: Option<&'a [u8]>,
 }
 
 impl<'a> Scan<'a> {
-    /// Meets an option, which waits for its value where it has none, or a flag, and answers whether it may stand here.
+    /// Notes an option, which waits for its value if it has none, or a flag, and returns whether it is allowed here.
     fn meet(&mut self, name: &'a [u8], value: Option<&'a [u8]>) -> Result<bool, AllocError>
         ensures { IfOk result (λ may. (rest : List (List ℕ)) →
             is_some (met_option (map (λ n. n.now) self.old.names.items) (Some (as_texts (name.entry, value.entry))) (λ met waiting. scan met waiting rest))
@@ -126,7 +126,7 @@ impl<'a> Scan<'a> {
         Ok(true)
     }
 
-    /// Reads one more word, and answers whether it may stand there.
+    /// Reads one more argument, and returns whether it is allowed.
     fn read(&mut self, word: &'a [u8]) -> Result<bool, AllocError>
         ensures { IfOk result (λ may. (rest : List (List ℕ)) →
             is_some (scan (map (λ n. n.now) self.old.names.items) (option_map (λ n. n.now) self.old.waiting) (word.entry.now ∷ rest))
@@ -149,8 +149,8 @@ impl<'a> Scan<'a> {
     }
 }
 
-/// Whether the words are a sequence of options with their values, `--NAME=VALUE` or `--NAME VALUE`, and of flags, `--NAME`,
-/// each at most once.
+/// Whether the arguments are a sequence of options with their values, `--NAME=VALUE` or `--NAME VALUE`, and of flags,
+/// `--NAME`, each at most once.
 pub fn are_well_formed(alloc: Global, words: &[String]) -> Result<bool, AllocError>
     ensures { IfOk result (λ are. are ≡ is_some (items_of (map string_bytes words.now))) }
 {

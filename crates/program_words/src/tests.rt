@@ -1,4 +1,4 @@
-//! The words of the command line.
+//! Tests of arguments, with plans and usage lines written by hand.
 
 use crate::options::read_words;
 use crate::plan::{JobName, Plan, TreeName};
@@ -6,7 +6,7 @@ use crate::usage::{WordsFault, line_of_usage};
 use run_settings::Settings;
 use std::alloc::{AllocError, Global};
 
-/// What the words ask for, or the line that they are refused with.
+/// What the arguments ask for, or the line that they are refused with.
 fn answer(alloc: Global, words: &[String]) -> Result<Result<Plan, &'static [u8]>, AllocError> {
     match read_words(alloc, words) {
         Ok(plan) => Ok(Ok(plan)),
@@ -15,7 +15,7 @@ fn answer(alloc: Global, words: &[String]) -> Result<Result<Plan, &'static [u8]>
     }
 }
 
-/// What the words of a line, split at its spaces, ask for, or the line that they are refused with.
+/// What the arguments in a line, split at its spaces, ask for, or the line that they are refused with.
 fn read(alloc: Global, line: &str) -> Result<Result<Plan, &'static [u8]>, AllocError> {
     let mut words = Vec::new(alloc);
     for word in line.split(' ') {
@@ -24,7 +24,7 @@ fn read(alloc: Global, line: &str) -> Result<Result<Plan, &'static [u8]>, AllocE
     answer(alloc, words.as_slice())
 }
 
-/// Whether the words of a line are refused with this line.
+/// Whether the arguments in a line are refused with this line.
 fn refuses(alloc: Global, line: &str, usage: &[u8]) -> Result<bool, AllocError> {
     match read(alloc, line)? {
         Ok(_) => Ok(false),
@@ -32,7 +32,7 @@ fn refuses(alloc: Global, line: &str, usage: &[u8]) -> Result<bool, AllocError> 
     }
 }
 
-/// Whether the words of a line ask for this, and for nothing else that is not a default.
+/// Whether the arguments in a line ask for this, and otherwise for defaults.
 fn asks(
     alloc: Global,
     line: &str,
@@ -228,7 +228,7 @@ fn numbers_stand_within_their_limits(rt: HostRuntime) -> Result<(), AllocError> 
     Ok(())
 }
 
-/// The parts and the seed that the words of a line ask for.
+/// The parts and the seed that the arguments in a line ask for.
 fn parts_and_seed(alloc: Global, line: &str) -> Result<Option<(u32, Option<u32>)>, AllocError> {
     match read(alloc, line)? {
         Ok(plan) => Ok(Some((plan.settings.parts, plan.seed))),
@@ -254,7 +254,7 @@ fn parts_and_seeds_stand_in_the_plan(rt: HostRuntime) -> Result<(), AllocError> 
     Ok(())
 }
 
-/// The workers, shards and runs kept that the words of a line ask for, and whether they ask for the work.
+/// The workers, shards and runs kept that the arguments in a line ask for, and whether they ask for work lines.
 fn ways_of_working(alloc: Global, line: &str) -> Result<Option<(u32, u32, u32, bool)>, AllocError> {
     match read(alloc, line)? {
         Ok(plan) => {

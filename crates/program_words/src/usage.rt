@@ -1,15 +1,15 @@
-//! The line for words that are refused.
+//! The line for arguments that are refused.
 ghost use Rattle.std.specs.Prelude.{◌≡◌};
 ghost use Rattle.program_words.specs.Usages.{line_for};
 
 use crate::plan::Field;
 
-/// Why there is no plan.
+/// Why the arguments give no plan.
 #[derive(Clone, Copy, Debug, PartialEq, Eq)]
 pub enum WordsFault {
-    /// The words are refused for this field, the first that applies.
+    /// The arguments are refused for this field, the first that applies.
     Usage(Field),
-    /// Want of memory.
+    /// Out of memory.
     Mem,
 }
 

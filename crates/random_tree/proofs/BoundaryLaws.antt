@@ -21,14 +21,14 @@ module _ {J V M : Type 0} where
   span-within (suc n) [] = omega arith
   span-within (suc n) (g ∷ gs) = let a = span-within n gs in omega (arith, a)
 
-  -- The boundary behind the next group.
+  -- The boundary after the next group.
   pub boundary-more : (gs : List (Group J V M)) (at new : Boundary) (x : Group J V M) → IsBoundary gs at → at.groups < length gs → x ≡ get_or gs at.groups x → new.groups ≡ at.groups + 1 → new.members ≡ at.members + count_of x → IsBoundary gs new
   boundary-more gs at new x before lt is groups members =
       let a = span-more gs at.groups x lt is in
       let b = before.1 in
       ((omega (arith, lt, groups)), members ∙ ((let c : at.members + count_of x ≡ span (take (at.groups + 1) gs) = omega (arith, a, b) in c) ∙ ap (λ (n : ℕ). span (take n gs)) (sym groups)))
 
-  -- It is no number too large.
+  -- Its numbers are not too large.
   pub boundary-fits : (gs : List (Group J V M)) (at : Boundary) (x : Group J V M) → IsBoundary gs at → at.groups < length gs → x ≡ get_or gs at.groups x → at.members + count_of x ≤ span gs
   boundary-fits gs at x before lt is = let a = span-more gs at.groups x lt is in let b = before.1 in let c = span-within (at.groups + 1) gs in omega (arith, a, b, c)
 

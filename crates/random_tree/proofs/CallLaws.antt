@@ -31,7 +31,7 @@ use Rattle.random_tree.proofs.PinLaws.{levels-covered, levels-balanced, levels-t
 use Rattle.random_tree.proofs.TightLaws.{tree-few}
 use Rattle.random_tree.proofs.SeenLaws.{undrafted-pins, undrafted-fits, empty-bottom, empty-leaves, empty-pins, taken-loose, splice-fits, splice-all, sheets-leaves, costs-counted, some-counted, costs-tight, some-tight, tree-known}
 
--- A shift of a document fits whatever places there are.
+-- A shift of a document fits any number of places.
 pub plain-fits : {X Y : Type 0} (f : X → Y) (most first news : ℕ) (gs : List X) (shift : Shift) → FitsShift Document most first (length (map f gs)) news shift → FitsShift Document 0 0 (length gs) news shift
 plain-fits f most first news gs (Slide old gone places came) fits = absurd fits
 plain-fits f most first news gs (Splice old gone came) fits = ((let n = length-map gs f in let w = fits.0 in omega (arith, n, w)), fits.1)
@@ -46,7 +46,7 @@ module _ {J V M : Type 0} (good : ℕ → V → Type 0) (joined : ℕ → V → 
   abbrev sound_tree : List (Level J V M) → Bool → Type 0
   sound_tree levels drafted = IsSound good joined encoded setting levels drafted
 
-  -- Where no draft stands, the pins are those of the tree alone.
+  -- Without a draft the pins are those of the tree alone.
   bare-pins : (levels : List (Level J V M)) (drafted : Bool) → All IsUndrafted levels → (seen levels drafted).pins ≡ stands_pins (pair_digest encoded) (map now_of levels)
   bare-pins levels drafted none = ap (λ (ps : List PinName). stands_pins (pair_digest encoded) (map now_of levels) ++ ps) (undrafted-pins (pair_digest encoded) levels none) ∙ append-nil (stands_pins (pair_digest encoded) (map now_of levels))
 
@@ -215,7 +215,7 @@ module _ {J V M : Type 0} (good : ℕ → V → Type 0) (joined : ℕ → V → 
       then-leaves : All (IsLeafTable (good setting)) (leaves_then shift news old)
       then-leaves = tables-then news_sound
 
-      -- The draft stands.
+      -- There is a draft.
       module _ (drafts : Drafts joined setting encoded shift news u v x y old new) (all_fit : All Fits new) (room : All HasRoom new) where
         pub drafted-sound : sound_tree new true
         drafted-sound = record {

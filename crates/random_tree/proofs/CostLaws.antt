@@ -19,7 +19,7 @@ use Rattle.random_tree.specs.Payments.{Merged, MergedSome}
 use Rattle.random_tree.proofs.PayLaws.{pays-one, paid-one}
 
 module _ {J V M : Type 0} (digest_of : PairOf V → List ℕ) (pair : PairOf V) (v w : CallerView) where
-  -- The pair of a merge that is held is known then, where nothing was met.
+  -- The pair of a held merge is known, if nothing was met.
   pub held-known : (h : Hold J V M) → IsHeld digest_of pair v w h → (Met v w → ⊥) → IsKnown (digest_of pair) w
   held-known (Pinned p) held clean =
       let covered : Covered w (name_of digest_of p ∷ []) = record { given = held.given; held = λ s id. (let n = held.got.held s id in omega (arith, n)) } in
@@ -50,6 +50,6 @@ module _ {V : Type 0} (digest_of : PairOf V → List ℕ) (pair : PairOf V) (v w
       pays = λ clean. pays-one (λ d. IsKnown d v) (λ d. IsKnown d w) y.merges z.merges (digest_of pair) (let n = counted.merges.1 in omega (arith, n)) (free clean) (λ d is. known-got d v w (hold_pins digest_of h) held.got is) (held-known digest_of pair v w h held clean);
     }
 
--- A merge of two tables of the leaves joins no more keys than these have.
+-- A merge of two tables of the leaves joins at most as many keys as these have.
 pub few-keys : {V : Type 0} (t u : List (List ℕ × V)) (all : List (List (List ℕ × V))) → IsTableOf all t → common_keys t u ≤ distinct_keys all
 few-keys t u all is = common-within t u all is.0 is.1

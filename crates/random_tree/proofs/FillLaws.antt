@@ -40,7 +40,7 @@ map-take f zero xs = refl
 map-take f (suc n) [] = refl
 map-take f (suc n) (x ∷ xs) = ap (λ ys. f x ∷ ys) (map-take f n xs)
 
--- A group takes one member at least, and no more than there are.
+-- A group takes at least one member, and at most as many as there are.
 pub added-within : {J V M : Type 0} (joined : ℕ → V → V → V) (setting : ℕ) (encoded : V → List ℕ) (ts : List (List (List ℕ × V))) (u v : CallerView) (x y : Counts) (count : ℕ) (old new : List (Group J V M))
     → AddsGroup joined setting encoded ts u v x y count old new → (1 ≤ count) × (count ≤ length ts)
 added-within joined setting encoded ts u v x y count old new adds =

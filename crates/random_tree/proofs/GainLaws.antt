@@ -19,7 +19,7 @@ module _ {J V M : Type 0} (digest_of : PairOf V → List ℕ) where
   pub gains-none : (v : CallerView) (gs : List (Group J V M)) → GainsGroups digest_of v v gs gs
   gains-none v gs = record { more = []; is = sym (append-nil gs); gets = gets-none v; loose = λ is. absurd (let no : false ≡ true = is in cc) }
 
-  -- The list is one with the same groups.
+  -- A list with the same groups.
   pub gains-same : (v : CallerView) (old new : List (Group J V M)) → new ≡ old → GainsGroups digest_of v v old new
   gains-same v old new same = record { more = []; is = same ∙ sym (append-nil old); gets = gets-none v; loose = λ is. absurd (let no : false ≡ true = is in cc) }
 

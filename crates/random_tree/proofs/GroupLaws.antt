@@ -40,7 +40,7 @@ module _ {T : Type 0} where
   pub members-next : (g : Members T) (t : T) (ts : List T) → members_of (with_next g t) ++ ts ≡ members_of g ++ (t ∷ ts)
   members-next g t ts = ap (λ (us : List T). g.first ∷ us) (append_assoc g.others (t ∷ []) ts)
 
-  -- The first groups stand over the first members.
+  -- The first groups are over the first members.
   pub flat-take : (p : ℕ) (gs : List (Members T)) → flat (take p gs) ≡ take (sizes (take p gs)) (flat gs)
   flat-take p gs =
       sym (take_first (flat (take p gs)) (flat (drop p gs)))
@@ -85,7 +85,7 @@ module _ {T : Type 0} (marked : T → Bool) where
   pub flat-groups : (ts : List T) → flat (groups_on marked None ts) ≡ ts
   flat-groups ts = flat-on None ts
 
-  -- The first group, and those behind it.
+  -- The first group, and those after it.
   record FirstOn (g : Members T) (ts : List T) : Type 0 where
     group : Members T
     more : List T
@@ -115,7 +115,7 @@ module _ {T : Type 0} (marked : T → Bool) where
     }
   ] refl
 
-  -- Behind the first group stand the groups of the members behind it.
+  -- After the first group come the groups of the members after it.
   pub rest-after : (ts : List T) (h : Members T) (hs : List (Members T)) → groups_on marked None ts ≡ h ∷ hs → groups_on marked None (drop (size h) ts) ≡ hs
   rest-after [] h hs is = absurd (let no : [] ≡ h ∷ hs = is in cc)
   rest-after (t ∷ ts) h hs is =
@@ -127,14 +127,14 @@ module _ {T : Type 0} (marked : T → Bool) where
       let count : size h ≡ suc (length f.more) = (let a = ap (λ (m : Members T). length m.others) same in omega (arith, a, grew)) in
       ap (groups_on marked None) (ap (λ (n : ℕ). drop n (t ∷ ts)) count ∙ (ap (drop (length f.more)) f.are ∙ drop_first f.more f.rest)) ∙ rest
 
-  -- So behind the first so many.
+  -- The same after a number of groups.
   pub rest-at : (q : ℕ) (ts : List T) (gs : List (Members T)) → groups_on marked None ts ≡ gs → groups_on marked None (drop (sizes (take q gs)) ts) ≡ drop q gs
   rest-at zero ts gs is = is
   rest-at (suc q) ts [] is = is
   rest-at (suc q) ts (g ∷ gs) is =
       ap (groups_on marked None) (sym (drop-drop (sizes (take q gs)) (size g) ts)) ∙ rest-at q (drop (size g) ts) gs (rest-after ts g gs is)
 
-  -- Groups that end by themselves stay, whatever comes behind them.
+  -- Groups that end by themselves stay, whatever comes after them.
   pub front-stays : (gs : List (Members T)) (ts : List T) → All (Ends marked) gs → groups_on marked None (flat gs ++ ts) ≡ gs ++ groups_on marked None ts
   front-stays [] ts all = refl
   front-stays (g ∷ gs) ts all =
@@ -142,7 +142,7 @@ module _ {T : Type 0} (marked : T → Bool) where
       ∙ (All-head (Ends marked) g gs all (flat gs ++ ts)
       ∙ ap (λ (hs : List (Members T)). g ∷ hs) (front-stays gs ts (All-tail (Ends marked) g gs all)))
 
-  -- Over two members and more there are groups, and over fewer none.
+  -- Over two or more members there are groups, over fewer none.
   pub groups-over : (ts : List T) → 2 ≤ length ts → groups_of marked ts ≡ groups_on marked None ts
   groups-over ts two = ap (λ (b : Bool). cond b (groups_on marked None ts) []) (le-leb 2 (length ts) two)
 
@@ -158,7 +158,7 @@ module _ {T : Type 0} (marked : T → Bool) where
     | false ↦ λ e same. absurd (let no : [] ≡ g ∷ gs = same in cc)
   ] refl is
 
-  -- A level has at most half as many groups as members, with what is left over.
+  -- A level has at most half as many groups as members, rounded up.
   few-on : (o : Option (Members T)) (ts : List T) → 2 * length (groups_on marked o ts) ≤ length ts + elim o [ None ↦ 1 | Some g ↦ 2 ]
   few-on None [] = omega arith
   few-on (Some g) [] = omega arith

@@ -60,7 +60,7 @@ module _ {J V M : Type 0} (joined : ℕ → V → V → V) (setting : ℕ) (enco
   }
 
   module _ (u v : CallerView) (x y : Counts) (g : Group J V M) (grows : IsGrowing u v x y g) where
-    -- What is left is what the group is begun for.
+    -- The rest of the members are for the begun group.
     groups-left : groups_from encoded ts ≡ groups_on (is_marked encoded) (Some grows.members) (drop (count_of g) ts)
     groups-left = ap (groups_from encoded) grows.split ∙ grows.before (drop (count_of g) ts)
 

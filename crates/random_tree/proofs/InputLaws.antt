@@ -1,4 +1,4 @@
--- The inputs of the levels over a list: how many they are, and that levels enough have all of them.
+-- The inputs of the levels over a list: their number, and that enough levels have all of them.
 use Rattle.std.proofs.Common.{◌≡◌, ◌⊎◌, inl, inr, ℕ, suc, zero, ◌+◌, ◌-◌, ◌*◌, ◌^◌, ◌≤◌, Bool, true, false, cond, List, [], ◌∷◌, ◌++◌, length, map, fold, Some, None, refl, sym, ap, ◌∙◌, arith, append_assoc, length-append}
 use Rattle.std.proofs.lemmas.List.{length-map}
 use Rattle.std.proofs.lemmas.Nat.{pow_pos}
@@ -13,7 +13,7 @@ module _ {T X : Type 0} (join : T → T → T) (input : T → T → X) where
   pub length-group : (g : Members T) → length (group_inputs join input g) ≡ length g.others
   length-group g = length-from g.first g.others
 
-  -- A level has as many inputs as it is shorter than the one below it.
+  -- A level has as many inputs as it has fewer groups than the level below.
   pub length-level : (gs : List (Members T)) → length (level_inputs join input gs) + length gs ≡ sizes gs
   length-level [] = refl
   length-level (g ∷ gs) = let a = length-append (group_inputs join input g) (level_inputs join input gs) in let b = length-group g in let c = length-level gs in omega (arith, a, b, c)
@@ -36,7 +36,7 @@ module _ {T X : Type 0} (join : T → T → T) (input : T → T → X) where
         let none = groups-none marked ts few in
         ap (λ (gs : List (Members T)). level_inputs join input gs ++ inputs_by marked join input k (map (whole join) gs)) none ∙ inputs-none k [] (omega arith)
 
-    -- The inputs of a group that is begun come first.
+    -- The inputs of a begun group come first.
     pub inputs-begin : (g : Members T) (ts : List T) → (more : List X) × (level_inputs join input (groups_on marked (Some g) ts) ≡ group_inputs join input g ++ more)
     inputs-begin g [] = ([], refl)
     inputs-begin g (t ∷ ts) =
@@ -56,7 +56,7 @@ module _ {T X : Type 0} (join : T → T → T) (input : T → T → X) where
     pub length-next : (k : ℕ) (ts : List T) → length ts ≤ 2 ^ (suc k) → length (next marked join ts) ≤ 2 ^ k
     length-next k ts le = let a = length-map (groups_of marked ts) (whole join) in let b = groups-halved marked k ts le in omega (arith, a, b)
 
-    -- Levels enough have all inputs.
+    -- Enough levels have all inputs.
     pub inputs-enough : (k j : ℕ) (ts : List T) → length ts ≤ 2 ^ k → length ts ≤ 2 ^ j → inputs_by marked join input k ts ≡ inputs_by marked join input j ts
     inputs-enough zero j ts a b = sym (inputs-none j ts (omega (arith, a)))
     inputs-enough (suc k) zero ts a b = inputs-none (suc k) ts (omega (arith, b))

@@ -12,7 +12,7 @@ use Rattle.random_tree.proofs.ReadLaws.{get-below}
 use Rattle.random_tree.proofs.GrowLaws.{IsGrowing, grow-start}
 
 module _ {J V M : Type 0} where
-  -- The next member of a group that begins at `from` and has so many.
+  -- The next member of a group that begins at `from`, by the number of its members.
   pub next-member : (gs : List (Group J V M)) (from n i : ℕ) (b : SheetOf V) → i ≡ from + n → slice_get (map group_sheet gs) i ≡ Some b → drop n (drop from (map group_table gs)) ≡ b.entries ∷ drop (n + 1) (drop from (map group_table gs))
   next-member gs from n i b at is =
       let more : i + 1 ≡ from + (n + 1) = omega (arith, at) in

@@ -166,6 +166,6 @@ fresh-covers old (e ∷ new) d c = elim (list_any (bytes_eq e) old) as (λ b. li
   ]
 ] refl
 
--- Where each old input is known, the fresh ones cover the new list.
+-- If each old input is known, the fresh ones cover the new list.
 pub fresh-pays : (known : List ℕ → Type 0) (old new : List (List ℕ)) → ((d : List ℕ) → Contains old d → known d) → Covers known (lacked old new) new
 fresh-pays known old new held d c = elim (fresh-covers old new d c) [ inl o ↦ inl (held d o) | inr f ↦ inr f ]

@@ -33,7 +33,7 @@ module _ {J V M : Type 0} (digest_of : PairOf V → List ℕ) where
       pub rest-balanced : Balanced v (groups_pins digest_of hs) w (groups_pins digest_of rest)
       rest-balanced = subst (λ (ps : List PinName). Balanced v ps w (groups_pins digest_of rest)) (sym (ap (groups_pins digest_of) is ∙ pins-push rest g)) (less-balanced v w (groups_pins digest_of rest) (all_pins digest_of g.holds.items) all-gone)
 
-  -- A draft takes the place of the groups that it replaces, which stand behind all others then.
+  -- A draft takes the place of the groups that it replaces, which come after all others then.
   module _ (first gone : ℕ) (gs fresh : List (Group J V M)) where
     abbrev pub kept : List (Group J V M)
     kept = take first gs ++ (fresh ++ drop (first + gone) gs)
@@ -87,7 +87,7 @@ module _ {J V M : Type 0} (digest_of : PairOf V → List ℕ) where
         (sym (ap (λ (hs : List (Group J V M)). groups_pins digest_of kept ++ groups_pins digest_of hs) is ∙ append-nil (groups_pins digest_of kept)))
         (balanced-from v w (groups_pins digest_of gs ++ groups_pins digest_of fresh) (groups_pins digest_of (kept ++ lost)) (groups_pins digest_of kept) replaced-count b)
 
-  -- The pins of all levels, those that stand before those of drafts.
+  -- The pins of all levels, those that come before those of drafts.
   pub levels-count : (s id : ℕ) (levels : List (Level J V M)) → count s id (levels_pins digest_of levels) ≡ count s id (stands_pins digest_of (map now_of levels) ++ drafts_pins digest_of levels)
   levels-count s id [] = refl
   levels-count s id (l ∷ levels) =
@@ -100,7 +100,7 @@ module _ {J V M : Type 0} (digest_of : PairOf V → List ℕ) where
       let h = count-append s id (groups_pins digest_of (fresh_of l)) (drafts_pins digest_of levels) in
       omega (arith, a, b, c, d, e, f, h)
 
-  -- Each of them is given where all are.
+  -- Each pin is given if all are.
   pub levels-given : (v : CallerView) (levels : List (Level J V M)) → AreGiven v (stands_pins digest_of (map now_of levels) ++ drafts_pins digest_of levels) → AreGiven v (levels_pins digest_of levels)
   levels-given v levels given = go levels (given-left v (stands_pins digest_of (map now_of levels)) (drafts_pins digest_of levels) given) (given-right v (stands_pins digest_of (map now_of levels)) (drafts_pins digest_of levels) given)
     where
@@ -119,7 +119,7 @@ module _ {J V M : Type 0} (digest_of : PairOf V → List ℕ) where
       balanced-order v w (stands_pins digest_of (map now_of old) ++ drafts_pins digest_of old) (levels_pins digest_of new) (stands_pins digest_of (map now_of new) ++ drafts_pins digest_of new) (λ s id. levels-count s id new)
       (balanced-from v w (stands_pins digest_of (map now_of old) ++ drafts_pins digest_of old) (levels_pins digest_of old) (levels_pins digest_of new) (λ s id. sym (levels-count s id old)) b)
 
-  -- Pins of groups that stay are given where those of all are.
+  -- Pins of groups that stay are given if those of all are.
   given-take : (v : CallerView) (n : ℕ) (gs : List (Group J V M)) → AreGiven v (groups_pins digest_of gs) → AreGiven v (groups_pins digest_of (take n gs))
   given-take v n gs g =
       given-left v (groups_pins digest_of (take n gs)) (groups_pins digest_of (drop n gs))
@@ -141,7 +141,7 @@ module _ {J V M : Type 0} (digest_of : PairOf V → List ℕ) where
       (subst (AreGiven v) (sym (pins-append (fresh_of l) back))
       (given-append v (groups_pins digest_of (fresh_of l)) (groups_pins digest_of back) new (given-drop v (l.draft.first + l.draft.gone) (now_of l) old))))
 
-  -- So with those of a tree that is settled.
+  -- The same for those of a settled tree.
   pub levels-taken : (v : CallerView) (levels : List (Level J V M)) → AreGiven v (levels_pins digest_of levels) → AreGiven v (stands_pins digest_of (map taken levels))
   levels-taken v [] g = tt
   levels-taken v (l ∷ levels) g =

@@ -44,7 +44,7 @@ module _ {V : Type 0} (joined : ℕ → V → V → V) (setting : ℕ) (encoded 
       some-among (distinct_keys all) u v x y [] (inputs_in joined setting encoded (groups_of (is_marked encoded) us)) (inputs_up joined setting encoded k (next (is_marked encoded) (merged (joined setting)) us)) (some all tables)
 
 module _ {J V M : Type 0} (joined : ℕ → V → V → V) (setting : ℕ) (encoded : V → List ℕ) where
-  -- No level is there, and none is asked for.
+  -- There is no level, and none is needed.
   pub raise-none : (us : List (List (List ℕ × V))) (v : CallerView) (x : Counts) (levels : List (List (Group J V M))) → levels ≡ [] → length us ≤ 1 → Raises joined setting encoded us v v x x levels
   raise-none us v x levels none few = subst (λ (ls : List (List (Group J V M))). Raises joined setting encoded us v v x x ls) (sym none) (groups-none (is_marked encoded) us few, λ all tables. merged-none (distinct_keys all) v v x [] (got-same v))
 
@@ -69,7 +69,7 @@ module _ {J V M : Type 0} (joined : ℕ → V → V → V) (setting : ℕ) (enco
         subst (λ (ts : List (List (List ℕ × V))). MergedSome (distinct_keys all) u w x z (inputs_in joined setting encoded (groups_of (is_marked encoded) us) ++ inputs_up joined setting encoded k ts)) tables-are
         (merged-some (distinct_keys all) u v w x y z (inputs_in joined setting encoded (groups_of (is_marked encoded) us)) (inputs_up joined setting encoded k (map group_table gs)) before after (level.1 all tables) (some all (gs-tables all tables)))
 
-  -- What the levels above the next one are asked for.
+  -- What the levels above the next one must be over.
   pub levels-above : (ts : List (List (List ℕ × V))) (gs : List (Group J V M)) (levels : List (List (Group J V M))) → AreLevels joined setting encoded (groups_of (is_marked encoded) ts) (gs ∷ levels) → AreLevels joined setting encoded (groups_of (is_marked encoded) (map group_table gs)) levels
   levels-above ts gs levels are =
       subst (λ (us : List (List (List ℕ × V))). AreLevels joined setting encoded (groups_of (is_marked encoded) us) levels) (sym (over-tables joined setting encoded (groups_of (is_marked encoded) ts) gs are.0)) are.1
@@ -97,7 +97,7 @@ module _ {J V M : Type 0} where
     All-append (λ (k : Level J V M). (now_of k ≡ []) × IsUndrafted k) adds.0 (l ∷ []) adds.2 (All-cons (λ (k : Level J V M). (now_of k ≡ []) × IsUndrafted k) l [] (none, stays) (All-nil (λ (k : Level J V M). (now_of k ≡ []) × IsUndrafted k))),
   )
 
--- Levels enough, and more of them.
+-- Enough levels, and more.
 pub enough-more : (leaves r n : ℕ) → leaves ≤ 2 ^ r → r + 1 ≤ n → leaves ≤ 2 ^ (n - 1)
 enough-more leaves r n le lt = let k : r ≤ n - 1 = omega (arith, lt) in let a : 2 ^ r ≤ 2 ^ (n - 1) = pow_mono k in omega (arith, le, a)
 

@@ -36,7 +36,7 @@ take-nil (suc n) = refl
 pub regroup-stopped : {V : Type 0} (joined : ℕ → V → V → V) (setting : ℕ) (encoded : V → List ℕ) (us : List (List (List ℕ × V))) (v : CallerView) (x : Counts) → RegroupsSome joined setting encoded us v v x x
 regroup-stopped joined setting encoded us v x all tables = some-none (distinct_keys all) v v x (inputs_in joined setting encoded (groups_of (is_marked encoded) us))
 
--- Where a draft changes nothing, the level stays.
+-- If a draft changes nothing, the level stays.
 pub taken-same : {J V M : Type 0} (l : Level J V M) → l.draft.gone ≡ 0 → l.draft.fresh.items ≡ [] → taken l ≡ now_of l
 taken-same l gone none =
     (λ i. take l.draft.first l.groups.items ++ (none i ++ drop (l.draft.first + gone i) l.groups.items))
@@ -55,7 +55,7 @@ taken-none first gone items fresh zero_is none all =
     (λ i. take (zero_is i) items ++ (none i ++ drop (end i) items)) ∙ drop-all items
 
 module _ {J V M : Type 0} where
-  -- No more members stand before a draft than are left.
+  -- No more members come before a draft than are left.
   pub first-within : (l : Level J V M) → Fits l → l.draft.first ≤ length (taken l)
   first-within l fits =
       let a = length-take l.draft.first l.groups.items in
@@ -63,7 +63,7 @@ module _ {J V M : Type 0} where
       omega (arith, fits, a, b)
 
 module _ {J V M : Type 0} (joined : ℕ → V → V → V) (setting : ℕ) (encoded : V → List ℕ) where
-  -- What stays is some of what stood.
+  -- What stays is a part of the old groups.
   pub meets-within : (below : Level J V M) (old : List (Group J V M)) (until : ℕ) (rest : List (List (List ℕ × V))) → Meets below old until rest → until ≤ length old
   meets-within below old until rest (inl none) = let a = none.1 in omega (arith, a)
   meets-within below old until rest (inr stay) = let a = stay.0 in omega (arith, a)
@@ -77,7 +77,7 @@ module _ {J V M : Type 0} (joined : ℕ → V → V → V) (setting : ℕ) (enco
     λ all tables. merged-none (distinct_keys all) v v x (inputs_in joined setting encoded (groups_of (is_marked encoded) (map group_table (taken below)))) (got-same v),
   )
 
-  -- Memory ran out behind the last merge.
+  -- Memory ran out after the last merge.
   pub regroup-some : (us : List (List (List ℕ × V))) (u v : CallerView) (x y : Counts) (gs : List (Group J V M)) → Regroups joined setting encoded us u v x y gs → RegroupsSome joined setting encoded us u v x y
   regroup-some us u v x y gs level all tables = merged-is-some (distinct_keys all) u v x y (inputs_in joined setting encoded (groups_of (is_marked encoded) us)) (level.1 all tables)
 
@@ -158,7 +158,7 @@ module _ {J V M : Type 0} (joined : ℕ → V → V → V) (setting : ℕ) (enco
         ∙ sym (ap (inputs_in joined setting encoded) groups-kept ∙ inputs-append joined setting encoded (take kept.groups mss) (groups_from encoded (drop kept.members us))))
         (some-among (distinct_keys all) u v x y (inputs_in joined setting encoded (take kept.groups mss)) (inputs_in joined setting encoded (groups_from encoded (drop kept.members us))) [] (some all tables))
 
-    -- So do those behind a boundary that is met.
+    -- So do those after a boundary that is met.
     meets-rest : (until : ℕ) (rest : List (List (List ℕ × V))) → Meets below old until rest → groups_from encoded rest ≡ drop until mss
     meets-rest until rest (inl none) =
         ap (groups_from encoded) none.0 ∙ sym (ap (λ (n : ℕ). drop n mss) (none.1 ∙ over-length joined setting encoded mss old over) ∙ drop-all mss)

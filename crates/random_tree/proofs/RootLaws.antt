@@ -91,7 +91,7 @@ module _ {J V M : Type 0} (good : ℕ → V → Type 0) (joined : ℕ → V → 
       go (ms ∷ []) over = let same = is ∙ over-sheet joined setting encoded ms g over.0 in (ap (λ (t : SheetOf V). t.setting) same, ap (λ (t : SheetOf V). Some t.entries) (sym same))
       go (ms ∷ ns ∷ more) over = absurd over.1
 
-  -- A level of any other number of groups leaves it to those above it.
+  -- A level of any other number of groups leaves the root to the levels above.
   pub root-above : (laws : IsGoodJoin (good setting) (joined setting)) (mss : List (Members (List (List ℕ × V)))) (gs : List (Group J V M)) (root : Option (SheetOf V)) → AreOver joined setting encoded mss gs → (length gs ≡ 1 → ⊥) → All (IsLeafTable (good setting)) (map (whole (merged (joined setting))) mss)
       → IsMergeOver joined setting (map (whole (merged (joined setting))) (groups_above joined setting encoded mss)) root → IsMergeOver joined setting (map (whole (merged (joined setting))) mss) root
   root-above laws mss gs root are other leaves above = go mss refl
@@ -114,7 +114,7 @@ only-one [] d one = absurd (omega (arith, one))
 only-one (x ∷ []) d one = refl
 only-one (x ∷ y ∷ xs) d one = absurd (omega (arith, one))
 
--- The root over levels, by what the lowest one is.
+-- The root over levels, by the lowest one.
 module _ {J V M : Type 0} (good : ℕ → V → Type 0) (joined : ℕ → V → V → V) (encoded : V → List ℕ) where
   pub at-none : (levels : List (Level J V M)) → levels ≡ [] → IsRootOf good joined encoded (map now_of levels) None
   at-none levels none setting mss are leaves = ap (map (whole (merged (joined setting)))) (subst (λ (ks : List (Level J V M)). AreLevels joined setting encoded mss (map now_of ks)) none are)

@@ -1,4 +1,4 @@
--- A tree as it is seen, before and after each call.
+-- The model of a tree before and after each call.
 use Rattle.std.proofs.Common.{◌≡◌, ◌⊎◌, inl, inr, ℕ, suc, zero, ◌+◌, ◌-◌, ◌*◌, ◌<◌, ◌||◌, Bool, true, false, List, [], ◌∷◌, ◌++◌, length, map, take, drop, Some, None, refl, sym, ap, subst, ◌∙◌, arith, append-nil, append_assoc, length-append, length-take, length-drop}
 use Rattle.std.specs.Prelude.{IsSome, Contains}
 use Rattle.std.specs.List.{All, list_any}
@@ -110,7 +110,7 @@ module _ {J V M : Type 0} where
       go (inl h) = inl (any-take l.draft.first (now_of l) h)
       go (inr h) = back (or_cases (groups_loose (fresh_of l)) (groups_loose (drop (l.draft.first + l.draft.gone) (now_of l))) (sym (list_any-append group_loose (fresh_of l) (drop (l.draft.first + l.draft.gone) (now_of l))) ∙ h))
 
-  -- A draft is loose only where the tree is, or a group that it brings.
+  -- A draft is loose only if the tree is, or a group that it brings.
   pub taken-loose : (levels : List (Level J V M)) → list_any groups_loose (map taken levels) ≡ true → (list_any groups_loose (map now_of levels) ≡ true) ⊎ (list_any (λ l. groups_loose (fresh_of l)) levels ≡ true)
   taken-loose [] is = absurd (let no : false ≡ true = is in cc)
   taken-loose (l ∷ levels) is = go (groups_loose (now_of l)) (groups_loose (fresh_of l)) (first (λ h. taken-loose levels h) (or_cases (groups_loose (taken l)) (list_any groups_loose (map taken levels)) is))
@@ -169,7 +169,7 @@ module _ {V : Type 0} where
   sheets-leaves good setting [] all = All-nil (IsLeafTable (good setting))
   sheets-leaves good setting (s ∷ ss) all = let a = All-head (IsLeaf good setting) s ss all in All-cons (IsLeafTable (good setting)) s.entries (tables_of ss) (a.values, a.rising) (sheets-leaves good setting ss (All-tail (IsLeaf good setting) s ss all))
 
-  -- What all inputs cost, where the tables are the leaves'.
+  -- What all inputs cost, if the tables are the leaves'.
   module _ (good : ℕ → V → Type 0) (joined : ℕ → V → V → V) (setting : ℕ) (encoded : V → List ℕ) (now : List (List (List ℕ × V))) (leaves : All (IsLeafTable (good setting)) now) (u v : CallerView) (x y : Counts) (most : ℕ) (most_is : length now ≡ most) where
     within-most : RoseBy 0 (length (tree_inputs encoded joined setting now)) (length (tree_inputs encoded joined setting now) * distinct_keys now) x y → RoseBy 0 (most - 1) ((most - 1) * distinct_keys now) x y
     within-most a = subst (λ (n : ℕ). RoseBy 0 n (n * distinct_keys now) x y) (let c = count-inputs (merged (joined setting)) (input_of encoded setting) (is_marked encoded) now in let same : length (tree_inputs encoded joined setting now) ≡ most - 1 = omega (arith, c, most_is) in same) a
@@ -180,7 +180,7 @@ module _ {V : Type 0} where
     pub some-counted : CostsSome now u v x y (tree_inputs encoded joined setting now) → RoseBy 0 (most - 1) ((most - 1) * distinct_keys now) x y
     some-counted cost = within-most (cost now (leaf-tables (good setting) now leaves)).counted
 
-    -- Where each input of the old tree is known, the fresh ones pay.
+    -- If each input of the old tree is known, the fresh ones pay.
     module _ (old : List (List (List ℕ × V))) (known : (d : List ℕ) → Contains (tree_inputs encoded joined setting old) d → IsKnown d u) (clean : Met u v → ⊥) where
       pub costs-tight : Costs now u v x y (tree_inputs encoded joined setting now) → RoseWithin (length (fresh_inputs encoded joined setting old now)) x.merges y.merges
       costs-tight cost =

@@ -1,4 +1,4 @@
--- A stretch of a list that is turned, and one that is replaced so.
+-- A stretch of a list that is turned, and one that is replaced by turning.
 use Rattle.std.proofs.Common.{◌≡◌, ℕ, ◌+◌, ◌-◌, ◌≤◌, List, [], ◌∷◌, ◌++◌, length, map, take, drop, refl, sym, ap, ◌∙◌, arith, append_assoc, length-append, length-take, length-drop}
 use Rattle.std.proofs.lemmas.List.{take_at, drop_at, take-append-drop, take-append-le}
 use Rattle.std.proofs.lemmas.List.{length-map}
@@ -15,7 +15,7 @@ module _ {X : Type 0} where
       let rest : drop n (xs ++ (bs ++ cs)) ≡ bs ++ cs = drop_at xs (bs ++ cs) n front in
       λ i. take_at xs (bs ++ cs) n front i ++ ((ap (drop k) rest ∙ drop_at bs cs k first) i ++ (ap (take k) rest ∙ take_at bs cs k first) i)
 
-  -- What is put behind all others, and then turned twice, takes the place of a stretch, which stands behind all others.
+  -- Items that are appended, and then turned twice, replace a stretch, which moves to the end.
   pub replaced : (old fresh : List X) (first gone kept : ℕ) → first + gone ≤ length old → kept ≡ length old - (first + gone) →
       turned first gone (turned (first + gone) kept (old ++ fresh)) ≡ (take first old ++ (fresh ++ drop (first + gone) old)) ++ take gone (drop first old)
   replaced old fresh first gone kept within kept_is =
@@ -35,14 +35,14 @@ module _ {X : Type 0} where
   pub lost-count : (old : List X) (first gone : ℕ) → first + gone ≤ length old → length (take gone (drop first old)) ≡ gone
   lost-count old first gone within = let a = length-take gone (drop first old) in let b = length-drop first old in omega (arith, a, b, within)
 
-  -- Without the last ones, as many as are lost.
+  -- The list without the last ones.
   pub cut : (hs kept lost : List X) (gone : ℕ) → hs ≡ kept ++ lost → length lost ≡ gone → take (length hs - gone) hs ≡ kept
   cut hs kept lost gone is count = (λ i. take (length (is i) - gone) (is i)) ∙ take_at kept lost (length (kept ++ lost) - gone) (let n = length-append kept lost in omega (arith, n, count))
 
   pub cut-within : (hs kept lost : List X) (gone : ℕ) → hs ≡ kept ++ lost → length lost ≡ gone → gone ≤ length hs
   cut-within hs kept lost gone is count = let n = length-append kept lost in let m = ap length is in omega (arith, n, m, count)
 
-  -- One more of the last ones goes.
+  -- One more of the last ones is removed.
   pub popped : (all hs rest : List X) (x : X) → hs ≡ rest ++ x ∷ [] → hs ≡ take (length hs) all → rest ≡ take (length rest) all
   popped all hs rest x is front =
       let n = ap length is in

@@ -1,4 +1,4 @@
--- What an advance drafts on the lowest level, and what the levels above it are asked for.
+-- What an advance drafts on the lowest level, and what the levels above it must be over.
 use Rattle.std.proofs.Common.{◌≡◌, ℕ, ◌+◌, ◌-◌, ◌^◌, ◌<◌, ◌≤◌, List, [], ◌∷◌, length, map, get_or, sym, ap, subst, ◌∙◌, arith}
 use Rattle.std.specs.List.{All}
 use Rattle.std.proofs.lemmas.List.{length-map}
@@ -39,7 +39,7 @@ bottom-at [] l some is = absurd (omega (arith, some))
 bottom-at (k ∷ levels) l some is = sym (ap now_of is)
 
 module _ {J V M : Type 0} (joined : ℕ → V → V → V) (setting : ℕ) (encoded : V → List ℕ) where
-  -- The splice lies within the lowest level.
+  -- The splice is within the lowest level.
   pub stage-within : (shift : Shift) (first gone came : ℕ) → shift ≡ Splice first gone came → (news : ℕ) (old : List (Level J V M)) (l : Level J V M) (levels : List (Level J V M)) → 0 < length old → AddsLevels old (l ∷ levels) → FitsShift Document 0 0 (length (bottom (map now_of old))) news shift → first + gone ≤ length (now_of l)
   stage-within shift first gone came is news old l levels some adds fits =
       let within = splice-within 0 0 (length (bottom (map now_of old))) news first gone came shift is fits in

@@ -91,7 +91,7 @@ module _ {J V M : Type 0} (joined : ℕ → V → V → V) (setting : ℕ) (enco
       let d = groups-few mss gs are.1 in
       omega (arith, a, b, c, d)
 
-  -- Levels that are all there have all inputs.
+  -- All levels together have all inputs.
   levels-inputs : (us : List (List (List ℕ × V))) (levels : List (List (Group J V M))) (k : ℕ) → AreLevels joined setting encoded (groups_of (is_marked encoded) us) levels → length us ≤ 2 ^ k → inputs_up joined setting encoded (length levels) us ≡ inputs_up joined setting encoded k us
   levels-inputs us [] k are le = sym (inputs-none (merged (joined setting)) (input_of encoded setting) (is_marked encoded) k us (go (few_or_two (length us))))
     where
@@ -120,7 +120,7 @@ module _ {J V M : Type 0} (joined : ℕ → V → V → V) (setting : ℕ) (enco
       let d = stands-few (next (is_marked encoded) (merged (joined setting)) us) levels are.1 in
       omega (arith, a, b, c, d)
 
-  -- The pins of a tree where no merge is loose, by their digests.
+  -- The pins of a tree if no merge is loose, by their digests.
   pub tree-digests : (ts : List (List (List ℕ × V))) (levels : List (List (Group J V M))) → 0 < length levels → IsTree joined setting encoded ts levels → list_any groups_loose levels ≡ false → map (λ p. p.digest) (stands_pins (pair_digest encoded) levels) ≡ tree_inputs encoded joined setting ts
   tree-digests ts [] some tree tight = absurd (omega (arith, some))
   tree-digests ts (gs ∷ levels) some tree tight =

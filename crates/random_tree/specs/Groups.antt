@@ -1,8 +1,8 @@
--- How the members of a level are taken into groups, and what is merged over them.
+-- How the members of a level are taken into groups, and which merges that takes.
 use Rattle.std.specs.Prelude.{◌≡◌, ℕ, suc, zero, ◌+◌, ◌||◌, ◌&&◌, Bool, cond, nat_le, List, [], ◌∷◌, ◌++◌, length, map, fold, Option, Some, None}
 use Rattle.std.specs.List.{flat_map}
 
--- The members of a group, which has one at least.
+-- The members of a group, at least one.
 pub record Members (T : Type 0) : Type 0 where
   pub first : T
   pub others : List T
@@ -44,22 +44,22 @@ module _ {T : Type 0} where
       level_inputs gs = flat_map group_inputs gs
 
   module _ (marked : T → Bool) where
-    -- Whether a group ends at this member, its n-th: at a marked one from the second on, and at the eighth.
+    -- Whether a group ends at this member, its n-th: at a marked one from the second on, or at the eighth.
     abbrev pub ends : ℕ → T → Bool
     ends n t = nat_le 2 n && (marked t || nat_le 8 n)
 
-    -- The groups of what is left of a list, where a group is begun or not. The last one ends with the list.
+    -- The groups of the rest of a list, with or without a begun group. The last one ends with the list.
     abbrev pub groups_on : Option (Members T) → List T → List (Members T)
     groups_on None [] = []
     groups_on (Some g) [] = g ∷ []
     groups_on None (t ∷ ts) = groups_on (Some (alone t)) ts
     groups_on (Some g) (t ∷ ts) = cond (ends (size g + 1) t) (with_next g t ∷ groups_on None ts) (groups_on (Some (with_next g t)) ts)
 
-    -- The groups of a list, of two members and more: over one or none there is no level.
+    -- The groups of a list of two or more members; over fewer there is no level.
     abbrev pub groups_of : List T → List (Members T)
     groups_of ts = cond (nat_le 2 (length ts)) (groups_on None ts) []
 
-    -- The group ends at its last member, whatever comes behind it.
+    -- The group ends at its last member, whatever comes after it.
     abbrev pub Ends : Members T → Type 0
     Ends g = (ts : List T) → groups_on None (members_of g ++ ts) ≡ g ∷ groups_on None ts
 
@@ -69,7 +69,7 @@ module _ {T : Type 0} where
       next ts = map (whole join) (groups_of ts)
 
       module _ {X : Type 0} (input : T → T → X) where
-        -- The inputs of so many levels over a list.
+        -- The inputs of a number of levels over a list.
         abbrev pub inputs_by : ℕ → List T → List X
         inputs_by zero ts = []
         inputs_by (suc k) ts = level_inputs join input (groups_of ts) ++ inputs_by k (next ts)

@@ -7,7 +7,7 @@ use Rattle.sheets.specs.Digests.{table_digest}
 use Rattle.tree_laws.specs.Pairs.{PairOf, pair_digest}
 use Rattle.random_tree.specs.Groups.{inputs_of}
 
--- The digests of the second list that are not in the first one, each once.
+-- The digests of the second list that the first one lacks, each once.
 abbrev pub lacked : List (List ℕ) → List (List ℕ) → List (List ℕ)
 lacked old [] = []
 lacked old (d ∷ ds) = cond (list_any (bytes_eq d) old) (lacked old ds) (d ∷ lacked (d ∷ old) ds)

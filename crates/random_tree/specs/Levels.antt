@@ -1,4 +1,4 @@
--- What a random tree is made of: levels of groups, each with a draft of them.
+-- The parts of a random tree: levels of groups, each with a draft.
 use Rattle.std.specs.Prelude.{◌≡◌, ℕ, ◌+◌, ◌-◌, ◌≤◌, ◌<◌, Bool, true, false, cond, List, [], ◌∷◌, ◌++◌, length, map, take, drop, vec_capacity, All, Option, Some, None}
 use Rattle.std.specs.List.{flat_map, list_any}
 use Rattle.definitions.specs.Tables.{IsRising, HasGoodValues, merged}
@@ -17,7 +17,7 @@ use Rattle.random_tree.specs.declared.level.Level.{Level}
 use Rattle.random_tree.specs.Groups.{Members, alone, groups_of, whole, Ends}
 use Rattle.random_tree.specs.Inputs.{pair_at, is_marked}
 
--- How many leaves there are after a shift, of so many.
+-- How many leaves there are after a shift of a number of leaves.
 abbrev pub count_after : Shift → ℕ → ℕ
 count_after (Slide first gone places fresh) n = (n + fresh) - gone
 count_after (Splice first gone fresh) n = (n + fresh) - gone
@@ -27,7 +27,7 @@ module _ {V : Type 0} where
   abbrev pub sheet_at : ℕ → List (List ℕ × V) → SheetOf V
   sheet_at setting t = record { setting = setting; entries = t }
 
-  -- The table's keys rise, and stand in these tables.
+  -- The table's keys rise, and are in these tables.
   abbrev pub IsTableOf : List (List (List ℕ × V)) → List (List ℕ × V) → Type 0
   IsTableOf all t = IsRising t × IsWithin t all
 
@@ -35,7 +35,7 @@ module _ {V : Type 0} where
   abbrev pub IsLeafTable : (V → Type 0) → List (List ℕ × V) → Type 0
   IsLeafTable good t = HasGoodValues good t × IsRising t
 
-  -- The groups that stand over those of a level.
+  -- The groups that are over those of a level.
   abbrev pub groups_above : (ℕ → V → V → V) → ℕ → (V → List ℕ) → List (Members (List (List ℕ × V))) → List (Members (List (List ℕ × V)))
   groups_above joined setting encoded mss = groups_of (is_marked encoded) (map (whole (merged (joined setting))) mss)
 
@@ -45,7 +45,7 @@ module _ {J V M : Type 0} where
   last_sheet s [] = s
   last_sheet s (h ∷ hs) = last_sheet (sheet_of h) hs
 
-  -- The sheet of a group: of its last merge, and where it has none, of its only member.
+  -- The sheet of a group: of its last merge, and if it has none, of its only member.
   abbrev pub group_sheet : Group J V M → SheetOf V
   group_sheet g = last_sheet g.first g.holds.items
 
@@ -66,15 +66,15 @@ module _ {J V M : Type 0} where
   abbrev pub group_loose : Group J V M → Bool
   group_loose g = list_any is_loose g.holds.items
 
-  -- So with groups.
+  -- The same for groups.
   abbrev pub groups_loose : List (Group J V M) → Bool
   groups_loose gs = list_any group_loose gs
 
-  -- The boundary is before the group that it names, and so many members stand before it.
+  -- The boundary is before the group that it names, and has this number of members before it.
   abbrev pub IsBoundary : List (Group J V M) → Boundary → Type 0
   IsBoundary gs at = (at.groups ≤ length gs) × (at.members ≡ span (take at.groups gs))
 
-  -- The groups that stand.
+  -- The present groups.
   abbrev pub now_of : Level J V M → List (Group J V M)
   now_of l = l.groups.items
 
@@ -82,7 +82,7 @@ module _ {J V M : Type 0} where
   abbrev pub fresh_of : Level J V M → List (Group J V M)
   fresh_of l = l.draft.fresh.items
 
-  -- The groups that stand once the draft is settled.
+  -- The groups once the draft is settled.
   abbrev pub taken : Level J V M → List (Group J V M)
   taken l = take l.draft.first l.groups.items ++ (l.draft.fresh.items ++ drop (l.draft.first + l.draft.gone) l.groups.items)
 
@@ -90,7 +90,7 @@ module _ {J V M : Type 0} where
   abbrev pub IsUndrafted : Level J V M → Type 0
   IsUndrafted l = (l.draft.first ≡ 0) × (l.draft.gone ≡ 0) × (l.draft.fresh.items ≡ [])
 
-  -- The groups that a draft takes away stand.
+  -- The groups that a draft removes are there.
   abbrev pub Fits : Level J V M → Type 0
   Fits l = l.draft.first + l.draft.gone ≤ length l.groups.items
 
@@ -121,20 +121,21 @@ module _ {J V M : Type 0} where
     AreMerges t (u ∷ us) (h ∷ hs) = (sheet_of h ≡ merge_of joined (pair_at setting t u)) × IsKept (pair_at setting t u) h × AreMerges (merged (joined setting) t u) us hs
 
     module _ (encoded : V → List ℕ) where
-      -- The group is over these members: it has their merges, and knows where it ends by itself.
+      -- The group is over these members: it has their merges, and knows whether it ends by itself.
       pub record IsOver (ms : Members (List (List ℕ × V))) (g : Group J V M) : Type 0 where
         pub first_is : g.first ≡ sheet_at setting ms.first
         pub holds_are : AreMerges ms.first ms.others g.holds.items
         pub ended_is : g.ended ≡ true → Ends (is_marked encoded) ms
 
-      -- So with each group of a level.
+      -- The same for each group of a level.
       abbrev pub AreOver : List (Members (List (List ℕ × V))) → List (Group J V M) → Type 0
       AreOver [] [] = Unit {0}
       AreOver [] (g ∷ gs) = ⊥
       AreOver (ms ∷ mss) [] = ⊥
       AreOver (ms ∷ mss) (g ∷ gs) = IsOver ms g × AreOver mss gs
 
-      -- The levels are the groups over these members, those over their merges, and so on until none is left to be taken.
+      -- The levels are the groups over these members, those over their merges, and so on until no group is left to
+      -- make.
       abbrev pub AreLevels : List (Members (List (List ℕ × V))) → List (List (Group J V M)) → Type 0
       AreLevels mss [] = mss ≡ []
       AreLevels mss (gs ∷ levels) = AreOver mss gs × AreLevels (groups_above joined setting encoded mss) levels
@@ -151,7 +152,7 @@ module _ {J V M : Type 0} where
   abbrev pub draft_of : Bool → List (Level J V M) → Option (Leaves V)
   draft_of drafted levels = cond drafted (Some (leaves_of (map taken levels))) None
 
-  -- The tree is one over its leaves, and so is its draft, or no level has one.
+  -- The levels are a tree over the leaves, and with the draft too, if there is one.
   pub record IsSound (good : ℕ → V → Type 0) (joined : ℕ → V → V → V) (encoded : V → List ℕ) (setting : ℕ) (levels : List (Level J V M)) (drafted : Bool) : Type 0 where
     pub some : 0 < length levels
     pub fits : All Fits levels
@@ -175,15 +176,15 @@ module _ {J V M : Type 0} where
     abbrev pub levels_pins : List (Level J V M) → List PinName
     levels_pins levels = flat_map level_pins levels
 
-    -- The pins of drafts alone.
+    -- Only the pins of drafts.
     abbrev pub drafts_pins : List (Level J V M) → List PinName
     drafts_pins levels = flat_map (λ l. groups_pins (fresh_of l)) levels
 
-    -- The pins of what stands alone.
+    -- Only the pins of the present groups.
     abbrev pub stands_pins : List (List (Group J V M)) → List PinName
     stands_pins levels = flat_map groups_pins levels
 
-    -- A tree as it is seen.
+    -- The model of a tree.
     abbrev pub seen_of : ℕ → ℕ → List (Level J V M) → Bool → Seen V
     seen_of setting places levels drafted = record {
       tree = record { setting = setting; places = places; leaves = leaves_of (map now_of levels); draft = draft_of drafted levels };

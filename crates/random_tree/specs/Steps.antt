@@ -1,4 +1,4 @@
--- What the steps of an advance leave: drafts that are whole or begun, pins that the caller got, and what it cost.
+-- What the steps of an advance leave: whole or begun drafts, new pins of the caller, and what they cost.
 use Rattle.std.specs.Prelude.{◌≡◌, ◌⊎◌, ℕ, ◌≤◌, ◌<◌, true, false, List, [], ◌∷◌, ◌++◌, length, map, take, drop, All, None, Option}
 use Rattle.std.specs.List.{list_any}
 use Rattle.definitions.specs.Tables.{merged}
@@ -21,7 +21,7 @@ use Rattle.random_tree.specs.Levels.{IsTableOf, IsLeafTable, IsOver, AreOver, Ar
 use Rattle.random_tree.specs.Payments.{Merged, MergedSome}
 
 module _ {V : Type 0} where
-  -- What it cost to merge these inputs, whatever tables the members' keys are in.
+  -- What it cost to merge these inputs.
   abbrev pub Costs : List (List (List ℕ × V)) → CallerView → CallerView → Counts → Counts → List (List ℕ) → Type 0
   Costs ts u v x y ds = (all : List (List (List ℕ × V))) → All (IsTableOf all) ts → Merged (distinct_keys all) u v x y ds
 
@@ -54,11 +54,11 @@ module _ {V : Type 0} where
     abbrev pub RegroupsSome : List (List (List ℕ × V)) → CallerView → CallerView → Counts → Counts → Type 0
     RegroupsSome ts u v x y = CostsSome ts u v x y (inputs_in (groups_of (is_marked encoded) ts))
 
-    -- The inputs of so many levels over these members.
+    -- The inputs of a number of levels over these members.
     abbrev pub inputs_up : ℕ → List (List (List ℕ × V)) → List (List ℕ)
     inputs_up k ts = inputs_by (is_marked encoded) (merged (joined setting)) (input_of encoded setting) k ts
 
-    -- Some merges of so many levels over these members.
+    -- Some merges of a number of levels over these members.
     abbrev pub RaisesSome : List (List (List ℕ × V)) → ℕ → CallerView → CallerView → Counts → Counts → Type 0
     RaisesSome ts k u v x y = CostsSome ts u v x y (inputs_up k ts)
 
@@ -87,24 +87,25 @@ module _ {J V M : Type 0} where
   AddsLevels old new = (more : List (Level J V M)) × (new ≡ old ++ more) × All (λ l. (now_of l ≡ []) × IsUndrafted l) more
 
   module _ (digest_of : PairOf V → List ℕ) where
-    -- Some more groups, whose pins the caller got. One of them is loose only where the caller met what makes one so.
+    -- Some more groups, whose pins the caller got. One of them is loose only if the caller met what makes a merge
+    -- loose.
     pub record GainsGroups (u v : CallerView) (old new : List (Group J V M)) : Type 0 where
       pub more : List (Group J V M)
       pub is : new ≡ old ++ more
       pub gets : Gets u (groups_pins digest_of more) v
       pub loose : groups_loose more ≡ true → Met u v
 
-    -- The same of the drafts of levels.
+    -- The same for the drafts of levels.
     pub record GainsLevels (u v : CallerView) (levels : List (Level J V M)) : Type 0 where
       pub gets : Gets u (drafts_pins digest_of levels) v
       pub loose : list_any (λ l. groups_loose (fresh_of l)) levels ≡ true → Met u v
 
-  -- The tables of the leaves that a splice makes of those of before.
+  -- The tables of the leaves after a splice.
   abbrev pub leaves_then : Shift → List (SheetOf V) → List (Level J V M) → List (List (List ℕ × V))
   leaves_then shift news old = shifted shift (tables_of news) (map group_table (bottom (map now_of old)))
 
-  -- Either no member is left, and no old group stays, or the old groups stay from a boundary on behind which the members
-  -- are those of before.
+  -- Either no member is left and no old group stays, or the old groups stay from a boundary on, after which the members
+  -- are the old ones.
   abbrev pub Meets : Level J V M → List (Group J V M) → ℕ → List (List (List ℕ × V)) → Type 0
   Meets below old until rest = ((rest ≡ []) × (until ≡ length old)) ⊎ ((until < length old) × (rest ≡ map group_table (drop (span (take until old)) (now_of below))))
 
@@ -116,7 +117,7 @@ module _ {J V M : Type 0} where
       pub rest : groups_from encoded ts ≡ members ∷ groups_from encoded (drop (count_of g) ts)
       pub cost : Costs ts u v x y (inputs_at joined setting encoded members)
 
-    -- One such group more, of so many members.
+    -- One such group more, with the number of its members.
     pub record AddsGroup (ts : List (List (List ℕ × V))) (u v : CallerView) (x y : Counts) (count : ℕ) (old new : List (Group J V M)) : Type 0 where
       pub group : Group J V M
       pub is : new ≡ old ++ group ∷ []
@@ -163,6 +164,6 @@ module _ {J V M : Type 0} where
     pub none : group.holds.items ≡ []
     pub ended : group.ended ≡ false
 
-  -- The sheet is the root over the lowest of these levels, whichever members they are over.
+  -- The sheet is the root over the lowest of these levels, whatever members they are over.
   abbrev pub IsRootOf : (ℕ → V → Type 0) → (ℕ → V → V → V) → (V → List ℕ) → List (List (Group J V M)) → Option (SheetOf V) → Type 0
   IsRootOf good joined encoded levels root = (setting : ℕ) (mss : List (Members (List (List ℕ × V)))) → AreLevels joined setting encoded mss levels → All (IsLeafTable (good setting)) (map (whole (merged (joined setting))) mss) → IsMergeOver joined setting (map (whole (merged (joined setting))) mss) root

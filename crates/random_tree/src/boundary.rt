@@ -1,19 +1,19 @@
-//! Between two groups of a level there is a place between members of the level below.
+//! Boundaries between groups of a level, as places between members of the level below.
 ghost use Rattle.std.specs.Prelude.{◌≡◌, ◌+◌, ◌^◌, ◌<◌, ◌≤◌, true, length, take, All};
 ghost use Rattle.random_tree.specs.Levels.{span, IsBoundary};
 
 use crate::group::Group;
 use job_laws::Job;
 
-/// So many groups of a level, and how many members they have.
+/// A number of groups of a level, and how many members they have.
 #[derive(Clone, Copy, Drop)]
 pub(crate) struct Boundary {
     pub(crate) groups: usize,
     pub(crate) members: usize,
 }
 
-/// The last boundary that no more than so many members stand before, with groups alone that ended by themselves before it:
-/// these groups stay, whatever comes behind these members. It walks them.
+/// The last boundary with at most `members` members before it, all in groups that end by themselves: these groups stay,
+/// whatever comes after these members. It walks them.
 pub(crate) fn kept_before<J: Job>(groups: &[Group<J>], members: usize) -> Boundary
     requires { span groups.now < 2 ^ 63 }
     ensures boundary { IsBoundary groups.now result }
@@ -40,7 +40,8 @@ pub(crate) fn kept_before<J: Job>(groups: &[Group<J>], members: usize) -> Bounda
     kept
 }
 
-/// The first boundary from this one on that so many members stand before, or the last one. It walks the groups between.
+/// The first boundary from this one on with at least `members` members before it, or the last one. It walks the groups
+/// between.
 pub(crate) fn reach<J: Job>(groups: &[Group<J>], from: Boundary, members: usize) -> Boundary
     requires span { span groups.now < 2 ^ 63 }
     requires from { IsBoundary groups.now from }

@@ -1,4 +1,4 @@
-//! An advance drafts the leaves, and then each level above them.
+//! An advance drafts the leaves, then each level above them.
 ghost use Rattle.std.specs.Prelude.{◌≡◌, ◌+◌, ◌<◌, ◌≤◌, length, map, All, OnOk, OnErr};
 ghost use Rattle.record_text.specs.Shifts.{FitsShift};
 ghost use Rattle.record_text.specs.declared.kind.Kind.TheVariants.{Document};
@@ -18,7 +18,7 @@ use std::alloc::{AllocError, Global};
 use std::sync::Wait;
 use tree_laws::MergeRecipe;
 
-/// Drafts all levels by a splice of the leaves. Where memory runs out, drafts of some of them stand.
+/// Drafts all levels by a splice of the leaves. Out of memory, some of them have drafts.
 pub(crate) fn draft_all<J: Job, W: Wait>(
     alloc: Global,
     rt: &W,

@@ -1,4 +1,4 @@
-//! Groups over changed members are made anew up to a boundary that was one before: from there on they are those of before.
+//! Groups over changed members are made again, up to an old boundary from which the old groups stay.
 ghost use Rattle.std.specs.Prelude.{◌≡◌, ◌≤◌, ◌<◌, ◌^◌, [], length, map, drop, OnErr, IfOk, IsTrue};
 ghost use Rattle.tree_laws.specs.Pairs.{pair_digest};
 ghost use Rattle.random_tree.specs.Levels.{Fits, AreSet, IsBoundary, now_of, taken, group_table, span};
@@ -14,8 +14,8 @@ use std::alloc::{AllocError, Global};
 use std::sync::Wait;
 use tree_laws::MergeRecipe;
 
-/// Makes groups from the members behind a boundary on, and answers how many of the old groups go before those that stay.
-/// Where memory runs out, the groups and merges that were made before stand among the fresh ones.
+/// Makes groups over the members from a boundary on, and returns how many of the old groups leave before those that
+/// stay. Out of memory, the groups and merges made before are among the fresh ones.
 pub(crate) fn fill<J: Job, W: Wait>(
     alloc: Global,
     rt: &W,
@@ -56,7 +56,7 @@ pub(crate) fn fill<J: Job, W: Wait>(
     Ok(old.len())
 }
 
-// The first boundary from this one on that may stand before the members from `at` on, and whether old groups stay behind it.
+// The first old boundary, from this one on, that may be at the member `at`, and whether the old groups stay after it.
 fn meet<J: Job>(below: &Level<J>, old: &[Group<J>], from: Boundary, at: usize) -> (Boundary, bool)
     requires fits { Fits below.now }
     requires at { at < length (taken below.now) }
@@ -75,7 +75,7 @@ fn meet<J: Job>(below: &Level<J>, old: &[Group<J>], from: Boundary, at: usize) -
     }
 }
 
-// Makes the group that begins at this member, and answers how many it takes.
+// Makes the group that begins at this member, and returns the number of its members.
 fn add_group<J: Job, W: Wait>(
     alloc: Global,
     rt: &W,

@@ -1,4 +1,4 @@
-//! A group keeps each of its merges, so that a later tree finds them all.
+//! A group keeps each of its merges, so that later trees find them all.
 ghost use Rattle.std.specs.Prelude.{◌≡◌};
 ghost use Rattle.random_tree.specs.Levels.{group_sheet, count_of};
 
@@ -13,7 +13,7 @@ pub(crate) struct Group<J: Job> {
     pub(crate) first: Sheet<J>,
     /// The merges with the other members, from left to right.
     pub(crate) holds: Vec<Hold<J>>,
-    /// It ends at its last member, whatever comes behind it.
+    /// Whether it ends at its last member, whatever comes after it.
     pub(crate) ended: bool,
 }
 

@@ -21,11 +21,11 @@ use tree_laws::{MergeRecipe, merge_through};
 // The most members of a group.
 const MOST: usize = 8;
 
-// A group of two and more ends at a member whose digest begins with this byte or a greater one.
+// A group of two or more ends at a member whose digest begins with this byte or a greater one.
 const MARK: u8 = 128;
 
-/// Merges the members that follow the first one into its group, up to the one that ends it, or to the last one. Where
-/// memory runs out, the group has the merges that were made before.
+/// Merges the members that follow the first one into its group, up to the one that ends it, or the last one. Out of
+/// memory, the group has the merges made before.
 pub(crate) fn grow<J: Job, W: Wait>(
     alloc: Global,
     rt: &W,

@@ -1,4 +1,4 @@
-//! The members that the level above is taken from are read through a level's draft, which is not settled yet.
+//! Members for the level above are read through a level's draft, which is not settled yet.
 ghost use Rattle.std.specs.Prelude.{◌≡◌, ◌<◌, [], IfSome, IsTrue, length, map, slice_get, drop, Some};
 ghost use Rattle.random_tree.specs.Levels.{Fits, IsUndrafted, taken, now_of, group_sheet};
 
@@ -31,7 +31,7 @@ impl<J: Job> Level<J> {
         }
     }
 
-    /// Whether the draft neither takes a group away nor brings one.
+    /// Whether the draft neither removes nor brings a group.
     pub(crate) fn stays(&self) -> bool
         ensures { IsTrue result → (self.now.draft.gone ≡ 0) × (self.now.draft.fresh.items ≡ []) }
     {
@@ -46,7 +46,7 @@ impl<J: Job> Level<J> {
         self.groups.len() - self.draft.gone + self.draft.fresh.len()
     }
 
-    /// The sheet of a group that it has once the draft is settled.
+    /// The sheet of a group, by its place once the draft is settled.
     pub(crate) fn member(&self, i: usize) -> &Sheet<J>
         requires fits { Fits self.now }
         requires within { i < length (taken self.now) }
@@ -62,7 +62,7 @@ impl<J: Job> Level<J> {
         self.groups[i - self.draft.fresh.len() + self.draft.gone].sheet()
     }
 
-    /// Where a group behind the draft stands now, by where it stands once the draft is settled.
+    /// The present place of a group after the draft, by its place once the draft is settled.
     pub(crate) fn place_before(&self, i: usize) -> Option<usize>
         requires fits { Fits self.now }
         requires within { i < length (taken self.now) }

@@ -1,4 +1,4 @@
-//! A change of the leaves goes up through all levels.
+//! A change of the leaves is carried up through all levels.
 ghost use Rattle.std.specs.Prelude.{◌≡◌, ◌≤◌, ◌-◌, ◌<◌, ◌^◌, ◌++◌, [], length, map, All, OnOk, OnErr, vec_len};
 ghost use Rattle.tree_laws.specs.Pairs.{pair_digest};
 ghost use Rattle.random_tree.specs.Inputs.{is_marked};
@@ -54,7 +54,7 @@ pub(crate) fn raise<J: Job, W: Wait>(
     }
 }
 
-/// Puts levels without groups above the others, as many as a tree over so many leaves may need.
+/// Adds levels without groups above the others, as many as a tree over `leaves` leaves may need.
 pub(crate) fn add_levels<J: Job>(
     alloc: Global,
     levels: &mut Vec<Level<J>>,
@@ -71,7 +71,7 @@ pub(crate) fn add_levels<J: Job>(
     Ok(())
 }
 
-// How often so many must be halved, with what is left over, until at most one is left.
+// How often a number of leaves must be halved, rounding up, until at most one is left.
 fn levels_over(leaves: usize) -> usize
     ensures enough { leaves ≤ 2 ^ result }
     ensures small { result ≤ leaves - 1 }

@@ -1,4 +1,4 @@
-//! A level follows the one below it: groups stay in front of what changed there and behind it.
+//! A level follows the one below it: its groups before and after the change there stay.
 ghost use Rattle.std.specs.Prelude.{◌≡◌, ◌≤◌, ◌<◌, ◌^◌, [], length, map, OnOk, OnErr};
 ghost use Rattle.tree_laws.specs.Pairs.{pair_digest};
 ghost use Rattle.random_tree.specs.Inputs.{is_marked};
@@ -15,7 +15,7 @@ use std::alloc::{AllocError, Global};
 use std::sync::Wait;
 use tree_laws::MergeRecipe;
 
-/// Drafts the level above one that has its draft. Where memory runs out, what was merged before stands in the draft.
+/// Drafts the level above one that has its draft. Out of memory, the merges made before are in the draft.
 pub(crate) fn regroup<J: Job, W: Wait>(
     alloc: Global,
     rt: &W,

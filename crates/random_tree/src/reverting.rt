@@ -1,4 +1,4 @@
-//! A draft that is dropped gives back the pins that it alone had.
+//! A dropped draft gives up the pins that only it had.
 ghost use Rattle.std.specs.Prelude.{◌≡◌, map, All};
 ghost use Rattle.pin_table.specs.Covers.{Covered, Balanced};
 ghost use Rattle.tree_laws.specs.Pairs.{pair_digest};
@@ -11,7 +11,7 @@ use pin_table::{Caller, Memo};
 use std::sync::Wait;
 use tree_laws::MergeRecipe;
 
-/// Drops the draft of each level, and lets go the groups that it brought. It takes no memory.
+/// Drops the draft of each level, and gives up the groups that it brought. It takes no memory.
 pub(crate) fn revert_all<J: Job, W: Wait>(
     rt: &W,
     memo: &Memo<MergeRecipe<J>>,

@@ -1,4 +1,4 @@
-//! The root is over all leaves: the only group of its level.
+//! The root: the only group of its level, over all leaves.
 ghost use Rattle.std.specs.Prelude.{◌≡◌, map, All, option_copied};
 ghost use Rattle.definitions.specs.Tables.{merged};
 ghost use Rattle.tree_laws.specs.Trees.{IsMergeOver};
@@ -10,7 +10,7 @@ use crate::level::Level;
 use job_laws::Job;
 use sheets::Sheet;
 
-/// The sheet of the only group of a level, where there is such a level.
+/// The sheet of the only group of a level, if there is such a level.
 pub(crate) fn root_of<J: Job>(levels: &[Level<J>]) -> Option<&Sheet<J>>
     ensures { IsRootOf J.good J.joined J.encoded (map now_of levels.now) (option_copied result) }
 {

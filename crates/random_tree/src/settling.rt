@@ -1,4 +1,4 @@
-//! A draft that is settled takes the place of the groups that it replaces, whose pins go back.
+//! A settled draft replaces groups, whose pins are given up.
 ghost use Rattle.std.specs.Prelude.{◌≡◌, ◌++◌, ◌-◌, ◌≤◌, length, take, map, All};
 ghost use Rattle.pin_table.specs.Covers.{PinName, Covered, Balanced};
 ghost use Rattle.tree_laws.specs.Pairs.{pair_digest};
@@ -12,8 +12,8 @@ use pin_table::{Caller, Memo};
 use std::sync::Wait;
 use tree_laws::{MergeRecipe, let_all_go};
 
-/// Makes the draft of each level the level, and lets go the groups that it replaces. It takes no memory, and leaves levels
-/// alone that the draft does not change.
+/// Makes the draft of each level the level, and gives up the groups that it replaces. It takes no memory, and skips
+/// levels that do not change.
 pub(crate) fn settle_all<J: Job, W: Wait>(
     rt: &W,
     memo: &Memo<MergeRecipe<J>>,
@@ -64,7 +64,7 @@ fn settle<J: Job, W: Wait>(
     drop_last(rt, memo, caller, &mut level.groups, gone);
 }
 
-/// Lets so many of the last groups go.
+/// Gives up a number of the last groups.
 pub(crate) fn drop_last<J: Job, W: Wait>(
     rt: &W,
     memo: &Memo<MergeRecipe<J>>,

@@ -8,7 +8,7 @@ use job_laws::Job;
 use sheets::Sheet;
 use std::alloc::{AllocError, Global};
 
-/// Shares of the sheets, each as a group. Where memory runs out, of some of them.
+/// Shares of the sheets, each as a group; out of memory, of some of them.
 pub(crate) fn share_all<J: Job>(
     alloc: Global,
     leaves: &mut Vec<Group<J>>,

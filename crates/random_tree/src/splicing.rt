@@ -1,8 +1,8 @@
-//! A stretch of a list is replaced where the list stands, in room that was taken before.
+//! A stretch of a list is replaced in place, in room that was reserved before.
 ghost use Rattle.std.specs.Prelude.{◌≡◌, ◌++◌, ◌+◌, ◌-◌, ◌<◌, ◌≤◌, length, take, drop, vec_len, vec_capacity};
 
-/// Puts the fresh items in place of the `gone` ones from `first` on, and these behind all others. It takes no memory, and
-/// moves what stands behind `first`.
+/// Replaces the `gone` items from `first` on by the fresh ones, and moves the replaced ones to the end. It takes no
+/// memory, and moves what comes after `first`.
 pub(crate) fn replace<T: Drop>(list: &mut Vec<T>, first: usize, gone: usize, fresh: &mut Vec<T>)
     requires within { first + gone ≤ length list.old.items }
     requires room { length list.old.items + length fresh.old.items ≤ vec_capacity list.old }

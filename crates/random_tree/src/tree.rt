@@ -1,4 +1,4 @@
-//! A tree over the chunks of a document: levels of groups, of which each has its own draft.
+//! A tree over the chunks of a document: levels of groups, each with a draft of its own.
 use crate::drafting::draft_all;
 use crate::level::Level;
 use crate::reverting::revert_all;
@@ -18,7 +18,7 @@ use tree_laws::{MergeRecipe, Tree};
 pub struct RandomTree<J: Job> {
     setting: u32,
     places: u32,
-    // From the leaves upwards. There is one at least; those above the root have no groups.
+    // The levels from the leaves upwards, at least one; those above the root have no groups.
     levels: Vec<Level<J>>,
     drafted: bool,
 }
@@ -150,7 +150,7 @@ impl<J: Job> Tree<J> for RandomTree<J> {
         _run: u64,
         _m: &mut J::Meter,
     ) -> Result<(), AllocError> {
-        // A field that is read brings what is known of the tree.
+        // Reading a field gives the prover the invariant of the tree.
         let _levels = &self.levels;
         Ok(())
     }

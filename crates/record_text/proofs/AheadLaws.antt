@@ -12,7 +12,7 @@ get_drop zero k l = ap (λ (m : ℕ). get_or l m 0) (omega arith)
 get_drop (suc n) k [] = refl
 get_drop (suc n) k (b ∷ l) = get_drop n k l ∙ (let e : suc (n + k) ≡ suc n + k = omega arith in ap (λ (m : ℕ). get_or (b ∷ l) m 0) e)
 
--- a test of bytes, and the fact
+-- a test of bytes, and its fact
 pub same_true : (a b : ℕ) → a ≡ b → (a == b) ≡ true
 same_true a b e = grind (arith, nat_tests)
 

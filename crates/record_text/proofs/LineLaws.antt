@@ -74,7 +74,7 @@ on_append true b p q e = refl
 on_append false b ([], rest) q e = absurd (subst Cons e tt)
 on_append false b (l ∷ ls, rest) q e = refl
 
--- bytes behind whole lines
+-- bytes after whole lines
 pub pieces-append : (u v : List ℕ) → EndsLine u → pieces (u ++ v) ≡ ((pieces u).0 ++ (pieces v).0, (pieces v).1)
 pieces-append [] v e = refl
 pieces-append (b ∷ bs) v e =
@@ -84,7 +84,7 @@ pieces-append (b ∷ bs) v e =
     ∙ on_append (b == 10) b (pieces bs) (pieces v) closed
     ∙ ap (λ (p : List (List ℕ) × List ℕ). (p.0 ++ (pieces v).0, (pieces v).1)) (sym (pieces_on b bs))
 
--- whole lines behind whole lines
+-- whole lines after whole lines
 pub EndsLine-append : (u v : List ℕ) → EndsLine u → EndsLine v → EndsLine (u ++ v)
 EndsLine-append u v eu ev = ap (λ (p : List (List ℕ) × List ℕ). p.1) (pieces-append u v eu) ∙ ev
 
@@ -100,7 +100,7 @@ text_of-pieces (b ∷ bs) =
     ap (λ (p : List (List ℕ) × List ℕ). text_of p.0 ++ p.1) (pieces_on b bs)
     ∙ on_join (b == 10) b (pieces bs) bs (λ e. let n : b ≡ 10 = grind (arith, nat_tests) in n) (text_of-pieces bs)
 
--- whole lines, and no line behind them
+-- whole lines, and no line after them
 pub whole_lines-used : (used part : List ℕ) → EndsLine used → HasNoLine part → whole_lines (used ++ part) ≡ used
 unfolding whole_lines
 whole_lines-used used part ends none =

@@ -91,7 +91,7 @@ module _ (r s : Reading) (left : Option (List ℕ)) (len skip : ℕ) (line : IsL
   pub goes_line : (full : Bool) (x : List ℕ) → Goes s.ended s.ahead full x → Goes r.ended (drop skip r.ahead) full x
   goes_line full x goes e = let g = goes (ended ∙ e) in (g.0, g.1 ∙ ahead)
 
--- what comes behind the bytes ahead of a reader
+-- what comes after the bytes ahead of a reader
 pub goes_on : (s : Reading) (full : Bool) (x : List ℕ) → Comes s.ended s.room full x → Goes s.ended s.ahead full (s.ahead ++ x)
 goes_on s full x comes e = let c = comes.0 e in (c.0, ap (λ (l : List ℕ). s.ahead ++ l) c.1 ∙ append-nil s.ahead)
 
@@ -99,9 +99,9 @@ goes_on s full x comes e = let c = comes.0 e in (c.0, ap (λ (l : List ℕ). s.a
 abbrev pub IsReading : ℕ → ℕ → Reading → ℕ → List (List ℕ) → List ℕ → Type 0
 IsReading at n s left got used = (head : Head) (full : Bool) (x : List ℕ) → Goes s.ended s.ahead full x → after_records at head n [] (λ next. from_line full next (at + 1) (used ++ x)) ≡ after_records at head left got (λ next. from_line full next (s.line + 1) x)
 
--- before another record line: r is the state before a look for it, s behind
+-- before another record line: r is the state before a look for it, s after
 module _ (at n left : ℕ) (r s : Reading) (got : List (List ℕ)) (used : List ℕ) (lr ls : Option (List ℕ)) (reading : IsReading at n r left got used) (looks : Uses r s lr ls []) (place : SamePlace r s) (some : 0 < left) where
-  -- up to the next line
+  -- as far as the next line
   up_to : (head : Head) (full : Bool) (y : List ℕ) → Goes s.ended s.ahead full y → after_records at head n [] (λ next. from_line full next (at + 1) (used ++ y)) ≡ from_line full (ARecord at head (left - 1) got) (s.line + 1) y
   up_to head full y goes =
       reading head full y (λ e. let st = looks.bytes.stays e in let g = goes st.0 in (g.0, g.1 ∙ sym st.1))
@@ -119,7 +119,7 @@ module _ (at n left : ℕ) (r s : Reading) (got : List (List ℕ)) (used : List 
         ∙ from_line-none (ARecord at head (left - 1) got) (s.line + 1),
   ))
 
-  -- there is a fault in its place
+  -- a fault comes instead
   pub stops : (fault : ScriptFault) → NextLineIs r.line s.ended s.room s.ahead (Err fault) → (head : Head) → Stops s.ended s.room used s.ahead (λ full x. after_records at head n [] (λ next. from_line full next (at + 1) x)) fault
   stops fault (inl mem) head = inl mem
   stops fault (inr (inl read)) head = inr (inl (
@@ -166,7 +166,7 @@ module _ (at n left : ℕ) (r s : Reading) (got : List (List ℕ)) (used : List 
 pub records_are : (at n : ℕ) (s : Reading) (left : ℕ) (got : List (List ℕ)) (used : List ℕ) → IsReading at n s left got used → left ≡ 0 → RecordsAre at n s.line s.ended s.room used s.ahead (Ok got)
 records_are at n s left got used reading none head full x goes = reading head full x goes ∙ all_read at head left got (λ next. from_line full next (s.line + 1) x) none
 
--- a command line: r is the state before a look for it, s behind, and t where the line is used
+-- a command line: r is the state before a look for it, s after, and t if the line is used
 module _ (r s t : Reading) (lr ls : Option (List ℕ)) (looks : Uses r s lr ls []) (place : SamePlace r s) where
   pub command_stops : (last : ℕ) (fault : ScriptFault) → NextLineIs r.line s.ended s.room s.ahead (Err fault) → CommandIs r.line s.line last s.ended s.room [] s.ahead (Err fault)
   command_stops last fault (inl mem) = inl mem
@@ -190,12 +190,12 @@ module _ (r s t : Reading) (lr ls : Option (List ℕ)) (looks : Uses r s lr ls [
           ∙ step-refuses t.line (take len s.ahead) (λ next. from_line full next (t.line + 1) (t.ahead ++ x)) why is,
     ))
 
-    -- its record lines: u is the state behind them
+    -- its record lines: u is the state after them
     module _ (head : Head) (n : ℕ) (is : asked (take len s.ahead) ≡ Asks head n) (u : Reading) (lu : Option (List ℕ)) (used : List ℕ) (rest : Uses t u ls lu used) where
       up_to_records : (full : Bool) (y : List ℕ) → Goes t.ended t.ahead full y → from_line full ACommand (r.line + 1) (take skip s.ahead ++ y) ≡ after_records t.line head n [] (λ next. from_line full next (t.line + 1) y)
       up_to_records full y goes = begin full y goes ∙ step-asks t.line (take len s.ahead) (λ next. from_line full next (t.line + 1) y) head n is
 
-      -- where the record lines lack something, so does the command
+      -- if the record lines lack something, so does the command
       pub needs_records : t.ended ≡ false → (x : List ℕ) → RecordsLack t.line n (t.ahead ++ x) → NeedsMore r.line (take skip s.ahead ++ (t.ahead ++ x))
       needs_records open' x lack = let found = lack head in (found.0, up_to_records true (t.ahead ++ x) (λ e. true_false (sym e ∙ open')) ∙ found.1)
 
@@ -225,7 +225,7 @@ module _ (r s t : Reading) (lr ls : Option (List ℕ)) (looks : Uses r s lr ls [
                 ∙ other.1 full x comes,
           ))
 
--- behind bytes that are held or used, and those that came since, a piece comes at most
+-- after bytes that are held or used, and those that came since, at most a piece comes
 module _ {S : Type 0} (lacks : List ℕ → Type 0) (a b c : S) (r s : Reading) (used : List ℕ) where
   took_later : (others : List ℕ → Type 0) (came after : List ℕ) → used ++ s.ahead ≡ r.ahead ++ came → (took : Took others s.ahead after) → lacks (used ++ (s.ahead ++ took.first)) → Took lacks r.ahead (used ++ after)
   took_later others came after held took lack = record {
@@ -237,7 +237,7 @@ module _ {S : Type 0} (lacks : List ℕ → Type 0) (a b c : S) (r s : Reading) 
     lacked = subst lacks (sym (append_assoc used s.ahead took.first) ∙ ap (λ (l : List ℕ). l ++ took.first) held ∙ append_assoc r.ahead came took.first) lack;
   }
 
-  -- a reader goes on: what is lacking behind s, of which `others` speaks, is lacking behind r
+  -- a reader goes on: what is lacking after s, of which `others` speaks, is lacking after r
   module _ (others : List ℕ → Type 0) (t : Reading) (more : List ℕ) (lacking : s.ended ≡ false → (x : List ℕ) → others (s.ahead ++ x) → lacks (used ++ (s.ahead ++ x))) where
     longer : Took lacks r.ahead (used ++ (more ++ t.ahead)) → Took lacks r.ahead ((used ++ more) ++ t.ahead)
     longer took = subst (λ (l : List ℕ). Took lacks r.ahead l) (sym (append_assoc used more t.ahead)) took
@@ -281,7 +281,7 @@ module _ (s t : Reading) (l m : Option (List ℕ)) (open' : s.ended ≡ false) w
   pub sound_filled : Sound s l → 0 < s.room → Told l m (λ x y. t.ended ≡ true → y ≡ []) → (t.ended ≡ true → t.room ≡ s.room) → t.room + length t.ahead ≡ s.room + length s.ahead → t.line ≡ s.line → Sound t m
   sound_filled sound some end off count line = record { empty = λ e. ended_empty l m (t.ended ≡ true) end e; more = λ e. omega (arith, some, off e); size = omega (arith, sound.size, count, line) }
 
--- a look takes one piece more where the next line is not held
+-- a look takes one piece more if the next line is not held
 pub line_more : {S : Type 0} (a b c : S) (r s t : Reading) → s.ended ≡ false → Lacks s.ahead → take (length s.ahead) t.ahead ≡ s.ahead → length t.ahead ≤ length s.ahead + 65536 → TakenWhere Lacks a b r s [] → TakenWhere Lacks a c r t []
 line_more a b c r s t open' lack prefix most before = taken_then Lacks a b c r s [] Lacks t [] (λ _ x l. l) before (inr (
   open',

@@ -28,7 +28,7 @@ commands-short most script short =
     let all : take most script ≡ script = take_all most script (omega arith) in
     λ i. from_line (part i) ACommand 1 (all i)
 
--- lines that are short or long, and the rest behind the last LF
+-- lines that are short or long, and the rest after the last LF
 short_line : (full : Bool) (w : Awaits) (num : ℕ) (line : List ℕ) (lines : List (List ℕ)) (rest : List ℕ) → length line < 65536 → walk full w num (line ∷ lines) rest ≡ step w num line (λ next. walk full next (num + 1) lines rest)
 short_line full w num line lines rest short = grind (arith, nat_tests)
 
@@ -88,7 +88,7 @@ pub one_read : (at : ℕ) (head : Head) (left : ℕ) (got : List (List ℕ)) (go
 one_read at head zero got go some = absurd (omega arith)
 one_read at head (suc n) got go some = let same : n ≡ suc n - 1 = omega arith in ap (λ (k : ℕ). go (ARecord at head k got)) same
 
--- a record line, where the records fit and where they do not
+-- a record line, if the records fit and if they do not
 pub step-record : (at : ℕ) (head : Head) (left : ℕ) (got : List (List ℕ)) (num : ℕ) (line : List ℕ) (go : Awaits → Script) → fits_command (got ++ line ∷ []) ≡ true → step (ARecord at head left got) num line go ≡ after_records at head left (got ++ line ∷ []) go
 step-record at head left got num line go fits = grind (arith, fits)
 
@@ -171,7 +171,7 @@ module _ (u : List ℕ) (i : ℕ) (len : length u ≡ i + 1) (before : (k : ℕ)
       line_of full w num (u ++ x) i (omega (arith, n, len)) (λ k h is. before k h (sym (get_left u x k (omega (arith, len, h))) ∙ is)) (λ h. get_left u x i (omega (arith, len)) ∙ found) x rest (omega (arith, n, len)) short
       ∙ ap (λ (l : List ℕ). step w num l (λ next. from_line full next (num + 1) x)) (take_left i u x (omega (arith, len)))
 
--- what stands ahead, where its first LF is known
+-- the bytes ahead, if their first LF is known
 module _ (ahead : List ℕ) (i : ℕ) (within : i ≤ length ahead) (before : (k : ℕ) → k < i → get_or ahead k 0 ≢ 10) (found : i < length ahead → get_or ahead i 0 ≡ 10) where
   pub no_line : length ahead ≤ i → HasNoLine ahead
   no_line ge = pieces_none ahead (λ k h. before k (omega arith))

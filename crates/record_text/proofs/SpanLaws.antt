@@ -7,7 +7,7 @@ use Rattle.record_text.specs.declared.records.Span.{Span}
 use Rattle.record_text.specs.Spans.{cut, cuts, LiesIn, IsText}
 use Rattle.record_text.proofs.LineLaws.{text_of-push}
 
--- bytes behind a text change no span in it
+-- bytes after a text change no span in it
 cut-append : (text more : List ℕ) (s : Span) → LiesIn (length text) s → cut (text ++ more) s ≡ cut text s
 cut-append text more s lies =
     ap (λ (l : List ℕ). take (s.to - s.from) l) (drop-append-le s.from text more (omega (arith, lies.0, lies.1)))

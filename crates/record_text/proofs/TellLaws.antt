@@ -1,4 +1,4 @@
--- What a reader answers of a told source.
+-- What a reader returns of a source whose bytes are observable.
 use Rattle.std.proofs.Common.{◌≡◌, ℕ, ◌+◌, ◌<◌, true, false, List, [], ◌∷◌, ◌++◌, length, take, refl, sym, ap, ◌∙◌, arith, inl, inr, ◌⊎◌, append-nil, take-add}
 use Rattle.std.specs.Prelude.{Option, Ok, Err, nat_le}
 use Rattle.std.specs.declared.option.Option.TheVariants.{Some, None}
@@ -21,11 +21,11 @@ take_exact (b ∷ a) l = ap (λ (x : List ℕ). b ∷ x) (take_exact a l)
 take_past : (a l : List ℕ) (k : ℕ) → take (length a + k) (a ++ l) ≡ a ++ take k l
 take_past a l k = take-add (length a) k (a ++ l) ∙ (λ i. take_exact a l i ++ take k (drop_exact a l i))
 
--- what is to come of a reader without a fault
+-- what a reader without a fault has still to return
 to_come-clear : (r : Reading) → r.fault ≡ None → (left : List ℕ) → to_come r left ≡ from_line (nat_le r.room (length left)) ACommand (r.line + 1) (r.ahead ++ take r.room left)
 to_come-clear r clear left = ap (λ (f : Option ScriptFault). script_after f r left) clear
 
--- r is the state before a call, and s behind
+-- r is the state before a call, and s after
 module _ (r s : Reading) (before now : Option (List ℕ)) (used : List ℕ) (u : Uses r s before now used) (sound : Sound s now) (clear : r.fault ≡ None) where
   rest_is : (l m : List ℕ) → r.ahead ++ l ≡ used ++ (s.ahead ++ m) → r.ahead ++ take r.room l ≡ used ++ (s.ahead ++ take s.room m)
   rest_is l m is =

@@ -1,4 +1,4 @@
--- The fields of a command line, and what they are as numbers and names.
+-- The fields of a command line, and their reading as numbers and names.
 use Rattle.std.specs.Prelude.{◌≡◌, ◌≢◌, ℕ, ◌==◌, ◌&&◌, nat_le, if◌then◌else◌, List, [], ◌∷◌, length, All, Option, Result, Ok, Err}
 use Rattle.std.specs.declared.option.Option.TheVariants.{Some, None}
 use Rattle.std.specs.Borrow.{Bor}
@@ -38,7 +38,7 @@ three_numbers (f ∷ g ∷ h ∷ []) =
     if is_number f && is_number g && is_number h then Ok (digits_value f, digits_value g, digits_value h) else Err BadNumber
 three_numbers fields = Err Unknown
 
--- One field, a name: no longer than a name may be, and being a field of a line it has no space and no LF.
+-- One field, a name: it has at most 255 bytes; as a field of a line it has no space and no LF.
 abbrev pub one_name : List (List ℕ) → Result (List ℕ) Why
 one_name (f ∷ []) = if nat_le (length f) most_name then Ok f else Err BadName
 one_name fields = Err Unknown
@@ -54,26 +54,26 @@ IsForm other = ⊥
 abbrev pub IsField : List ℕ → Type 0
 IsField f = All (λ b. b ≢ 32) f × All (λ b. b ≢ 10) f
 
--- The fields behind the first, where a space is there.
+-- The fields after the first, if there is a space.
 abbrev pub fields_behind : Option (Bor (List ℕ)) → List (List ℕ)
 fields_behind None = []
 fields_behind (Some rest) = fields_of rest.now
 
--- The first field of a line, and what stands behind its space.
+-- The first field of a line, and what comes after its space.
 abbrev pub SplitsField : List ℕ → Bor (List ℕ) × Option (Bor (List ℕ)) → Type 0
 SplitsField line split = fields_of line ≡ split.0.now ∷ fields_behind split.1
 
--- The field, where there is one alone.
+-- The field, if there is exactly one.
 abbrev pub OneField : List (List ℕ) → Option (Bor (List ℕ)) → Type 0
 OneField fields None = length fields ≢ 1
 OneField fields (Some f) = fields ≡ f.now ∷ []
 
--- The fields, where there are two.
+-- The fields, if there are exactly two.
 abbrev pub TwoFields : List (List ℕ) → Option (Bor (List ℕ) × Bor (List ℕ)) → Type 0
 TwoFields fields None = length fields ≢ 2
 TwoFields fields (Some both) = fields ≡ both.0.now ∷ both.1.now ∷ []
 
--- The fields, where there are three.
+-- The fields, if there are exactly three.
 abbrev pub ThreeFields : List (List ℕ) → Option (Bor (List ℕ) × Bor (List ℕ) × Bor (List ℕ)) → Type 0
 ThreeFields fields None = length fields ≢ 3
 ThreeFields fields (Some all) = fields ≡ all.0.now ∷ all.1.now ∷ all.2.now ∷ []

@@ -8,7 +8,7 @@ use Rattle.std.specs.Cmp.Lexicographic.{slice_cmp}
 abbrev pub most_name : ℕ
 most_name = 255
 
--- A name has no more bytes than it may, and none of them is a space or LF.
+-- A name has at most 255 bytes, and none of them is a space or LF.
 abbrev pub IsName : List ℕ → Type 0
 IsName bytes = (length bytes ≤ most_name) × All (λ b. b ≢ 32) bytes × All (λ b. b ≢ 10) bytes
 

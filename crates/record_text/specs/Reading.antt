@@ -1,4 +1,4 @@
--- What a reader that holds a prefix of a script knows of the rest.
+-- What a reader that holds a prefix of a script knows about the rest.
 use Rattle.std.specs.Prelude.{◌≡◌, ◌≢◌, ℕ, ◌+◌, ◌^◌, ◌<◌, ◌≤◌, Bool, true, false, nat_le, List, [], ◌++◌, length, take, drop, Option, Result, Ok, Err, ◌⊎◌}
 use Rattle.std.specs.declared.option.Option.TheVariants.{Some, None}
 use Rattle.definitions.specs.Outside.{Told}
@@ -16,15 +16,15 @@ use Rattle.record_text.specs.declared.reading.Reading.{Reading}
 use Rattle.record_text.specs.declared.reading.Found.{Found}
 use Rattle.record_text.specs.declared.reading.Found.TheVariants.{Line, End, Long, Cut, More}
 
--- What comes behind the bytes that were used, where the source may have ended: then the bytes ahead are all.
+-- What comes after the used bytes; if the source has ended, that is only the bytes ahead.
 abbrev pub Goes : Bool → List ℕ → Bool → List ℕ → Type 0
 Goes ended ahead full x = ended ≡ true → (full ≡ false) × (x ≡ ahead)
 
--- What comes behind the bytes ahead: nothing where the source ended, or where no more bytes count.
+-- What comes after the bytes ahead: nothing if the source has ended, or if no more bytes count.
 abbrev pub Comes : Bool → ℕ → Bool → List ℕ → Type 0
 Comes ended room full x = (ended ≡ true → (full ≡ false) × (x ≡ [])) × (room ≡ 0 → (full ≡ true) × (x ≡ []))
 
--- The first `n` bytes ahead are a line, which its line end makes `skip`.
+-- The first `n` bytes ahead are a line, which has `skip` bytes with its line end.
 pub record IsLine (ended : Bool) (ahead : List ℕ) (n skip : ℕ) : Type 0 where
   pub within : skip ≤ length ahead
   pub prefix : n ≤ skip
@@ -37,7 +37,7 @@ pub record IsLine (ended : Bool) (ahead : List ℕ) (n skip : ℕ) : Type 0 wher
 abbrev pub Lacks : List ℕ → Type 0
 Lacks ahead = (w : Awaits) (num : ℕ) → from_line true w num ahead ≡ ([], Faulty num LongScript)
 
--- What a look at the bytes ahead finds.
+-- What the bytes ahead show of the next line.
 abbrev pub FoundIs : Bool → ℕ → List ℕ → Found → Type 0
 FoundIs ended room ahead (Line n skip) = IsLine ended ahead n skip
 FoundIs ended room ahead End = (ended ≡ true) × (ahead ≡ [])
@@ -51,13 +51,13 @@ pub record Sound (r : Reading) (left : Option (List ℕ)) : Type 0 where
   pub more : r.ended ≡ true → 0 < r.room
   pub size : r.line + (r.room + length r.ahead) < 2 ^ 62
 
--- Of what a reader held and its source had left, the bytes `used` were used.
+-- Of the bytes that a reader held and its source had left, `used` were used.
 pub record Used (old_ended new_ended : Bool) (old_ahead new_ahead : List ℕ) (before now : Option (List ℕ)) (used : List ℕ) : Type 0 where
   pub bytes : Told before now (λ l m. old_ahead ++ l ≡ used ++ (new_ahead ++ m))
   pub stays : old_ended ≡ true → (new_ended ≡ true) × (old_ahead ≡ used ++ new_ahead)
   pub ends : new_ended ≡ false → EndsLine used
 
--- The same of two states of a reader, with the bytes counted.
+-- The same for two states of a reader, with the bytes counted.
 pub record Uses (old new : Reading) (before now : Option (List ℕ)) (used : List ℕ) : Type 0 where
   pub bytes : Used old.ended new.ended old.ahead new.ahead before now used
   pub count : length used + (new.room + length new.ahead) ≡ old.room + length old.ahead
@@ -77,7 +77,7 @@ NextLineIs line ended room ahead (Err fault) =
     ⊎ ((fault.why ≡ Read) × (ended ≡ false) × (0 < room) × HasNoLine ahead)
     ⊎ (fault.why ≢ Read) × ((full : Bool) (x : List ℕ) (w : Awaits) → Comes ended room full x → from_line full w (line + 1) (ahead ++ x) ≡ ([], Faulty fault.line fault.why))
 
--- Why no more was read, where `script` says what the used bytes and those behind them are.
+-- Why no more was read, where `script` says what the used bytes and those after them are.
 abbrev pub Stops : Bool → ℕ → List ℕ → List ℕ → (Bool → List ℕ → Script) → ScriptFault → Type 0
 Stops ended room used ahead script fault =
     (fault.why ≡ Mem)
@@ -89,51 +89,51 @@ abbrev pub RecordsAre : ℕ → ℕ → ℕ → Bool → ℕ → List ℕ → Li
 RecordsAre at n line ended room used ahead (Ok got) = (head : Head) (full : Bool) (x : List ℕ) → Goes ended ahead full x → after_records at head n [] (λ next. from_line full next (at + 1) (used ++ x)) ≡ with_command (command_of head got, at) (from_line full ACommand (line + 1) x)
 RecordsAre at n line ended room used ahead (Err fault) = (head : Head) → Stops ended room used ahead (λ full x. after_records at head n [] (λ next. from_line full next (at + 1) x)) fault
 
--- The next command, of the bytes that were taken alone: the used bytes are its lines, or the bytes taken show why there
--- is none.
+-- The next command by the bytes taken: the used bytes are its lines, or the bytes taken show why there is none.
 abbrev pub CommandIs : ℕ → ℕ → ℕ → Bool → ℕ → List ℕ → List ℕ → Result (Option Command) ScriptFault → Type 0
 CommandIs old_line line last ended room used ahead (Ok (Some c)) = (full : Bool) (x : List ℕ) → Goes ended ahead full x → from_line full ACommand (old_line + 1) (used ++ x) ≡ with_command (c, last) (from_line full ACommand (line + 1) x)
 CommandIs old_line line last ended room used ahead (Ok None) = (ended ≡ true) × (ahead ≡ []) × (used ≡ [])
 CommandIs old_line line last ended room used ahead (Err fault) = Stops ended room used ahead (λ full x. from_line full ACommand (old_line + 1) x) fault
 
--- The script from a reader's place on.
+-- The rest of the script from a reader's place on.
 abbrev pub script_after : Option ScriptFault → Reading → List ℕ → Script
 script_after None r left = from_line (nat_le r.room (length left)) ACommand (r.line + 1) (r.ahead ++ take r.room left)
 script_after (Some fault) r left = ([], Faulty fault.line fault.why)
 
--- The commands that a reader has still to answer, where its source has `left`, and how they end: after a fault that fault.
+-- The commands that a reader has still to return if its source has `left`, and how they end: after a fault, with that
+-- fault.
 abbrev pub to_come : Reading → List ℕ → Script
 to_come r left = script_after r.fault r left
 
--- What `next` answers of the commands to come: the first with its line, or how they end.
+-- What `next` returns of the commands to come: the first with its line, or how they end.
 abbrev pub NextTold : Script → Script → ℕ → Result (Option Command) ScriptFault → Type 0
 NextTold old new last (Ok (Some c)) = old ≡ with_command (c, last) new
 NextTold old new last (Ok None) = (old ≡ ([], Done)) × (new ≡ ([], Done))
 NextTold old new last (Err fault) = ((fault.why ≡ Mem) ⊎ (fault.why ≡ Read) ⊎ (old ≡ ([], Faulty fault.line fault.why))) × (new ≡ ([], Faulty fault.line fault.why))
 
--- The same of the bytes that were taken alone.
+-- The same by the bytes taken.
 abbrev pub NextTaken : Reading → Reading → List ℕ → Result (Option Command) ScriptFault → Type 0
 NextTaken old new used result = CommandIs old.line new.line new.last new.ended new.room used new.ahead result
 
--- The line of the last answered command stays where none is answered.
+-- The line of the last command returned stays if none is returned.
 abbrev pub LastIs : ℕ → ℕ → Result (Option Command) ScriptFault → Type 0
 LastIs old new (Ok (Some c)) = Unit {0}
 LastIs old new (Ok None) = new ≡ old
 LastIs old new (Err fault) = new ≡ old
 
--- What no call but `next` changes.
+-- What only `next` changes.
 pub record SamePlace (old new : Reading) : Type 0 where
   pub line : new.line ≡ old.line
   pub last : new.last ≡ old.last
   pub fault : new.fault ≡ old.fault
 
--- Nothing was taken: the source is as before, and of what was held `used` was used.
+-- Nothing was taken: the source is unchanged, and `used` was used of the bytes held.
 pub record Held {S : Type 0} (old_source new_source : S) (old new : Reading) (used : List ℕ) : Type 0 where
   pub source : new_source ≡ old_source
   pub ended : new.ended ≡ old.ended
   pub ahead : old.ahead ≡ used ++ new.ahead
 
--- Behind the bytes `before` came `first` and then `last`, a piece at most, which was taken where what stood before it
+-- After the bytes `before` came `first` and then `last`, at most one piece, which was taken because the bytes before it
 -- lacked something.
 pub record Took (lacks : List ℕ → Type 0) (before after : List ℕ) : Type 0 where
   pub first : List ℕ
@@ -142,14 +142,14 @@ pub record Took (lacks : List ℕ → Type 0) (before after : List ℕ) : Type 0
   pub piece : length last ≤ most_piece
   pub lacked : lacks (before ++ first)
 
--- Where something was taken, the source had not ended, and what was held before the last piece lacked something.
+-- If something was taken, the source had not ended, and the bytes held before the last piece lacked something.
 abbrev pub TakenWhere : {S : Type 0} → (List ℕ → Type 0) → S → S → Reading → Reading → List ℕ → Type 0
 TakenWhere lacks old_source new_source old new used = Held old_source new_source old new used ⊎ (old.ended ≡ false) × Took lacks old.ahead (used ++ new.ahead)
 
--- These bytes lack a record line of the command on line `at`, where more may come.
+-- These bytes lack a record line of the command on line `at`, and more may come.
 abbrev pub RecordsLack : ℕ → ℕ → List ℕ → Type 0
 RecordsLack at n ahead = (head : Head) → (num : ℕ) × (after_records at head n [] (λ next. from_line true next (at + 1) ahead) ≡ ([], Faulty num LongScript))
 
--- These bytes behind line `line` do not show yet what comes next, where more may come.
+-- These bytes after line `line` do not show yet what comes next, and more may come.
 abbrev pub NeedsMore : ℕ → List ℕ → Type 0
 NeedsMore line ahead = (num : ℕ) × (from_line true ACommand (line + 1) ahead ≡ ([], Faulty num LongScript))

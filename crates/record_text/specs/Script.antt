@@ -23,11 +23,12 @@ Script = List (Command × ℕ) × Ending
 abbrev pub with_command : Command × ℕ → Script → Script
 with_command c s = (c ∷ s.0, s.1)
 
--- The records of one command have no more text than they may.
+-- The records of one command have at most 268,435,456 bytes of text.
 abbrev pub fits_command : List (List ℕ) → Bool
 fits_command records = nat_le (length (text_of records)) most_text
 
--- What comes next: a command line, or a record line. The command on line `at` still waits for so many others behind it.
+-- What comes next: a command line, or a record line of the command on line `at`, which waits for `others` more after
+-- it.
 pub data Awaits : Type 0 where
   ACommand : Awaits
   ARecord : (at : ℕ) (head : Head) (others : ℕ) (got : List (List ℕ)) → Awaits
@@ -37,7 +38,7 @@ abbrev pub after_records : ℕ → Head → ℕ → List (List ℕ) → (Awaits 
 after_records at head zero got go = with_command (command_of head got, at) (go ACommand)
 after_records at head (suc n) got go = go (ARecord at head n got)
 
--- A line, where `go` says how the script goes on behind it.
+-- A line, where `go` says how the script continues after it.
 abbrev pub step : Awaits → ℕ → List ℕ → (Awaits → Script) → Script
 step ACommand num line go = elim (asked line) [
   | Asks head n ↦ after_records num head n [] go
@@ -51,8 +52,8 @@ abbrev pub finish : Awaits → Script
 finish ACommand = ([], Done)
 finish (ARecord at head others got) = ([], Faulty at ShortInput)
 
--- The commands of lines from line `num` on and of the rest behind the last LF. `full`: the script goes on past these
--- bytes, so that its first `most` bytes are all that count.
+-- The commands of lines from line `num` on and of the rest after the last LF. `full`: the script goes on past these
+-- bytes, of which only the first `most` count.
 abbrev pub walk : Bool → Awaits → ℕ → List (List ℕ) → List ℕ → Script
 walk full awaits num [] rest =
     if nat_lt most_record (length rest) then ([], Faulty num LongLine)

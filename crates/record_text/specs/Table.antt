@@ -31,7 +31,7 @@ abbrev pub row : {A : Type 0} → Result A Why → (A → Asked) → Asked
 row (Ok fields) asks = asks fields
 row (Err why) asks = Refuses why
 
--- The table: a command word and its fields ask for a command with so many record lines.
+-- The table: a command word and its fields ask for a command with a number of record lines.
 abbrev pub row_of : Word → List (List ℕ) → Asked
 row_of Words.Bucket fields = row (one_number fields) (λ n. Asks OfBucket n)
 row_of Words.Drop fields = row (one_number fields) (λ n. Asks (OfDrop n) 0)
@@ -42,7 +42,7 @@ row_of Words.Edit fields = row (three_numbers fields) (λ at_del_n. Asks (OfEdit
 row_of Words.Load fields = row (one_number fields) (λ n. Asks OfLoad n)
 row_of Words.Run fields = row (no_field fields) (λ none. Asks OfRun 0)
 
--- The row of a word, where the table has it.
+-- The row of a word, if the table has it.
 abbrev pub row_at : Option Word → List (List ℕ) → Asked
 row_at None fields = Refuses Unknown
 row_at (Some word) fields = row_of word fields
@@ -67,7 +67,7 @@ command_of (OfEdit at del) got = Edit at del got
 command_of OfLoad got = Load got
 command_of OfRun got = Run
 
--- A command line is refused for its form alone.
+-- A command line is refused only for its form.
 abbrev pub RefusesForm : Asked → Type 0
 RefusesForm (Asks head n) = Unit {0}
 RefusesForm (Refuses why) = IsForm why

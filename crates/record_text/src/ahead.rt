@@ -1,5 +1,5 @@
-//! The bytes that a reader took from its source and did not use yet. They are taken a piece at a time, and each is
-//! searched for a line's end once.
+//! The bytes that a reader took from its source and has not used yet. They are taken a piece at a time, and each is
+//! searched for LF once.
 ghost use Rattle.std.specs.Prelude.{◌≡◌, ◌≢◌, ◌<◌, ◌≤◌, ◌+◌, ◌++◌, ◌⊎◌, [], ℕ, length, take, drop, slice_index, IfOk, IfErr, OnOk, OnErr, IsErrOf};
 ghost use Rattle.definitions.specs.Outside.{Told, Rose};
 ghost use Rattle.record_text.specs.Ahead.{NoneBefore, most_piece};
@@ -14,7 +14,8 @@ use std::marker::Model;
 /// The most bytes that are taken at once.
 const MOST_PIECE: usize = 65_536;
 
-/// Bytes that were taken from a source and not used yet, seen as a list of bytes. Each byte is searched for LF once.
+/// Bytes that were taken from a source and are not used yet, modelled as a list of bytes. Each byte is searched for LF
+/// once.
 #[derive(Drop)]
 pub struct Ahead {
     held: Vec<u8>,
@@ -43,7 +44,7 @@ fn forget_prefix(bytes: &mut Vec<u8>, n: usize)
     }
 }
 
-/// Room for a piece, which stays for later ones.
+/// Makes room for a piece, which is kept for later ones.
 fn make_piece(piece: &mut Vec<u8>) -> Result<(), AllocError>
     ensures { OnOk result (length piece.new.items ≡ most_piece) }
 {
@@ -53,7 +54,7 @@ fn make_piece(piece: &mut Vec<u8>) -> Result<(), AllocError>
     piece.resize(MOST_PIECE, 0)
 }
 
-/// Takes once, `want` bytes at most. Room is made before, so that no byte is lost.
+/// Takes once from the source, at most `want` bytes. Room is made first, so that no byte is lost.
 fn take_piece<S: Source>(held: &mut Vec<u8>, piece: &mut [u8], source: &mut S) -> Result<usize, Why>
     requires { 0 < length piece.old }
     ensures bytes { Told (S.left source.old) (S.left source.new) (λ l m. held.old.items ++ l ≡ held.new.items ++ m) }
@@ -80,7 +81,7 @@ fn take_piece<S: Source>(held: &mut Vec<u8>, piece: &mut [u8], source: &mut S) -
     }
 }
 
-/// The place of the first LF from a place on, or the number of bytes where there is none.
+/// The place of the first LF from a place on, or the number of bytes if there is none.
 fn line_end_from(bytes: &[u8], from: usize) -> usize
     requires start { from ≤ length bytes.now }
     requires none { NoneBefore from bytes.now }
@@ -107,7 +108,8 @@ impl Ahead {
         }
     }
 
-    /// Takes once from a source, `most` bytes at most, and answers how many came.
+    /// Takes once from a source, at most `most` bytes, and returns how many came. It fails if the source does, or out
+    /// of memory.
     pub fn take_from<S: Source>(&mut self, source: &mut S, most: u64) -> Result<usize, Why>
         requires { 0 < most }
         ensures bytes { Told (S.left source.old) (S.left source.new) (λ l m. self.old ++ l ≡ self.new ++ m) }
@@ -138,7 +140,7 @@ impl Ahead {
         self.held.len() - self.at
     }
 
-    /// The place of the first LF, or the number of bytes where there is none.
+    /// The place of the first LF, or the number of bytes if there is none.
     pub fn line_end(&mut self) -> usize
         ensures same { self.new ≡ self.old }
         ensures within { result ≤ length self.old }

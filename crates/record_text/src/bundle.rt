@@ -1,4 +1,4 @@
-//! Records that several owners share, as the window and the lanes share those of a leaf, without a copy of their text.
+//! Records that several owners share without a copy of their text, as a window and the lanes share those of a leaf.
 ghost use Rattle.std.specs.Prelude.{◌≡◌, IfOk};
 
 use crate::Records;
@@ -6,7 +6,7 @@ use std::alloc::{AllocError, Global};
 use std::marker::Model;
 use std::sync::Arc;
 
-/// Shared records that do not change, seen as the records.
+/// Shared records that do not change, modelled as the records.
 #[derive(Drop)]
 pub struct Bundle {
     records: Arc<Records, Global>,
@@ -22,7 +22,7 @@ impl Model for Bundle {
 }
 
 impl Bundle {
-    /// These records, to be shared. They are not copied.
+    /// Makes these records shared. They are not copied.
     pub fn of(alloc: Global, records: Records) -> Result<Bundle, AllocError>
         ensures { IfOk result (λ b. b ≡ records) }
     {
@@ -37,7 +37,7 @@ impl Bundle {
         &self.records
     }
 
-    /// The same records once more. They are not copied.
+    /// Another owner of the same records. They are not copied.
     pub fn share(&self) -> Result<Bundle, AllocError>
         ensures { IfOk result (λ b. b ≡ self.now) }
     {

@@ -1,23 +1,23 @@
-//! What a script can ask of a window, with the records that it brings.
+//! The commands of a script, with the records that they bring.
 use crate::{Name, Records};
 
-/// One command of a script. Numbers are those of its line, and records those of its record lines.
+/// One command of a script. Its numbers are those of its line, its records those of its record lines.
 #[derive(Drop)]
 pub enum Command {
-    /// A new bucket comes.
+    /// Adds a bucket at the end.
     Bucket(Records),
-    /// The oldest buckets go, so many.
+    /// Removes this many of the oldest buckets.
     Drop(u32),
-    /// Records are added at the end of the bucket at a place, counted from 0 at the oldest.
+    /// Adds records at the end of the bucket at a place, counted from 0 at the oldest.
     Late { place: u32, more: Records },
-    /// The file that later edits and loads act on.
+    /// Names the file that later edits and loads act on.
     File { name: Name },
-    /// A file goes.
+    /// Removes a file.
     Remove { name: Name },
-    /// From the record at a place on, `del` records become `ins`.
+    /// Replaces `del` records from place `at` on, counted from 0, by `ins`.
     Edit { at: u32, del: u32, ins: Records },
-    /// The file becomes these records.
+    /// Replaces all records of the file by these.
     Load(Records),
-    /// The window is answered.
+    /// Asks for the answer over the window.
     Run,
 }

@@ -1,4 +1,4 @@
-//! How a command line splits into fields at its spaces, and which numbers and names a row of the table reads from them.
+//! A command line is split into fields at its spaces; a row of the table reads numbers and names from them.
 ghost use Rattle.std.specs.Prelude.{◌≡◌, All, IfErr, IfOk};
 ghost use Rattle.record_text.specs.Fields.{SplitsField, OneField, TwoFields, ThreeFields, IsField, IsForm, fields_behind, no_field, one_number, two_numbers, three_numbers, one_name};
 
@@ -7,7 +7,7 @@ use crate::{Name, Why, parse_number};
 use memchr::memchr;
 use std::alloc::{AllocError, Global};
 
-/// The first field of a line, and what stands behind its space where there is one.
+/// The first field of a line, and what follows its space, if there is one.
 pub fn split_field(line: &[u8]) -> (&[u8], Option<&[u8]>)
     ensures { SplitsField line.now result }
 {
@@ -17,7 +17,7 @@ pub fn split_field(line: &[u8]) -> (&[u8], Option<&[u8]>)
     }
 }
 
-/// The field, where there is one alone.
+/// The field, if there is exactly one.
 fn one_field(rest: Option<&[u8]>) -> Option<&[u8]>
     ensures { OneField (fields_behind rest.entry) result }
 {
@@ -31,7 +31,7 @@ fn one_field(rest: Option<&[u8]>) -> Option<&[u8]>
     }
 }
 
-/// The fields, where there are two.
+/// The fields, if there are exactly two.
 fn two_fields(rest: Option<&[u8]>) -> Option<(&[u8], &[u8])>
     ensures { TwoFields (fields_behind rest.entry) result }
 {
@@ -45,7 +45,7 @@ fn two_fields(rest: Option<&[u8]>) -> Option<(&[u8], &[u8])>
     }
 }
 
-/// The fields, where there are three.
+/// The fields, if there are exactly three.
 fn three_fields(rest: Option<&[u8]>) -> Option<(&[u8], &[u8], &[u8])>
     ensures { ThreeFields (fields_behind rest.entry) result }
 {
@@ -59,7 +59,7 @@ fn three_fields(rest: Option<&[u8]>) -> Option<(&[u8], &[u8], &[u8])>
     }
 }
 
-/// A row without fields.
+/// Checks a row without fields. With a field, the command is `Unknown`.
 pub fn no_field(rest: Option<&[u8]>) -> Result<(), Why>
     ensures fields { result ≡ no_field (fields_behind rest.entry) }
     ensures form { IfErr result IsForm }
@@ -70,7 +70,7 @@ pub fn no_field(rest: Option<&[u8]>) -> Result<(), Why>
     }
 }
 
-/// The number of a row with one.
+/// The field of a row with one number. It fails with `Unknown` for another number of fields, and with `BadNumber`.
 pub fn one_number(rest: Option<&[u8]>) -> Result<u32, Why>
     ensures fields { result ≡ one_number (fields_behind rest.entry) }
     ensures form { IfErr result IsForm }
@@ -84,7 +84,7 @@ pub fn one_number(rest: Option<&[u8]>) -> Result<u32, Why>
     }
 }
 
-/// The numbers of a row with two.
+/// The fields of a row with two numbers. It fails with `Unknown` for another number of fields, and with `BadNumber`.
 pub fn two_numbers(rest: Option<&[u8]>) -> Result<(u32, u32), Why>
     ensures fields { result ≡ two_numbers (fields_behind rest.entry) }
     ensures form { IfErr result IsForm }
@@ -98,7 +98,7 @@ pub fn two_numbers(rest: Option<&[u8]>) -> Result<(u32, u32), Why>
     }
 }
 
-/// The numbers of a row with three.
+/// The fields of a row with three numbers. It fails with `Unknown` for another number of fields, and with `BadNumber`.
 pub fn three_numbers(rest: Option<&[u8]>) -> Result<(u32, u32, u32), Why>
     ensures fields { result ≡ three_numbers (fields_behind rest.entry) }
     ensures form { IfErr result IsForm }
@@ -116,7 +116,8 @@ pub fn three_numbers(rest: Option<&[u8]>) -> Result<(u32, u32, u32), Why>
     }
 }
 
-/// The name of a row with one. It is copied.
+/// The field of a row with one name, which is copied. It fails with `Unknown` for another number of fields, with
+/// `BadName`, and out of memory, which is the outer `Err`.
 pub fn one_name(alloc: Global, rest: Option<&[u8]>) -> Result<Result<Name, Why>, AllocError>
     requires { All IsField (fields_behind rest) }
     ensures fields { IfOk result (λ name. name ≡ one_name (fields_behind rest.entry)) }

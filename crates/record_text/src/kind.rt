@@ -1,6 +1,6 @@
-//! Which commands a window takes and how it forgets is a matter of its kind alone.
+//! The kinds of windows. The kind decides which commands a window has, and which leaves it drops.
 
-/// How a window forgets: by commands, in a circle of places, never, or as an edited document.
+/// How a window loses leaves: by commands, in a circle of places, never, or as an edited document.
 #[derive(Clone, Copy, Debug, PartialEq, Eq)]
 pub enum Kind {
     Buckets,

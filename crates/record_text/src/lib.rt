@@ -1,7 +1,7 @@
-//! Records, scripts and their commands. Start at `ScriptReader`, which reads the commands of a script from a source, one
-//! after the other; `specs/Script.antt` says which commands a script has, and `specs/Table.antt` is the table of command
-//! words. Reading is one pass over the bytes and holds one line and the record lines of one command; no memory is taken
-//! for a number before its lines are there.
+//! Records, scripts and their commands. Start at [`ScriptReader`], which reads the commands of a script from a source,
+//! one after the other; `specs/Script.antt` says which commands a script has, and `specs/Table.antt` is the table of
+//! command words. Reading is one pass over the bytes, and holds one line and the record lines of one command; no memory
+//! is reserved for a number before its record lines are there.
 #![tactic(auto)]
 
 mod ahead;

@@ -1,4 +1,4 @@
-//! Names of the files of a document, which stand in byte order. A name is a field of a command line, so it has no space.
+//! Names of the files of a document, in byte order. A name is a field of a command line, so it has no space.
 ghost use Rattle.std.specs.Prelude.{◌≡◌, ◌↔◌, [], IsTrue, IfOk};
 ghost use Rattle.record_text.specs.Names.{IsName, name_cmp};
 
@@ -9,14 +9,14 @@ use std::marker::Model;
 /// The most bytes of a name.
 pub const MOST_NAME: usize = 255;
 
-/// Whether these bytes may be the name of a file: at most 255 bytes without a space and LF.
+/// Whether these bytes are a name: at most 255 bytes, none of them a space or LF.
 pub fn is_name(bytes: &[u8]) -> bool
     ensures { IsTrue result ↔ IsName bytes.now }
 {
     bytes.len() <= MOST_NAME && !bytes.contains(&b' ') && !bytes.contains(&b'\n')
 }
 
-/// The name of a file, seen as its bytes: at most 255, without a space and LF. It may be empty.
+/// The name of a file, modelled as its bytes: at most 255, none of them a space or LF. It may be empty.
 #[derive(Drop)]
 pub struct Name {
     bytes: Vec<u8>,
@@ -43,7 +43,7 @@ impl Name {
         }
     }
 
-    /// The name with these bytes, which are copied.
+    /// The name with these bytes, which must be a name. They are copied.
     pub fn of(alloc: Global, bytes: &[u8]) -> Result<Name, AllocError>
         requires { IsName bytes.now }
         ensures { IfOk result (λ name. name ≡ bytes.now) }
@@ -60,7 +60,7 @@ impl Name {
         &self.bytes
     }
 
-    /// The same name once more, with memory of its own.
+    /// A copy of the name, with memory of its own.
     pub fn copy(&self, alloc: Global) -> Result<Name, AllocError>
         ensures { IfOk result (λ copy. copy ≡ self.now) }
     {
@@ -68,14 +68,14 @@ impl Name {
         Ok(Name { bytes })
     }
 
-    /// Whether these are equal names.
+    /// Whether the names are equal.
     pub fn same(&self, other: &Name) -> bool
         ensures { IsTrue result ↔ (self.now ≡ other.now) }
     {
         self.bytes == other.bytes
     }
 
-    /// The byte order of two names: a name comes before all that it begins.
+    /// The byte order of two names: a name comes before those of which it is a prefix.
     pub fn compare(&self, other: &Name) -> Ordering
         ensures { result ≡ name_cmp self.now other.now }
     {

@@ -1,10 +1,11 @@
-//! Decimal numbers as scripts and answers write them: one way only for each value.
+//! Decimal numbers as scripts and answers write them: each value in one way only.
 ghost use Rattle.std.specs.Prelude.{◌≡◌, ◌≤◌, length, take, drop, decimal, IsTrue, SomeIff};
 ghost use Rattle.definitions.specs.Numbers.{is_number, digits_value};
 
 use itoa::Buffer;
 
-/// The value of a number: 1 to 10 digits without a leading 0, unless it is 0 alone, of a value up to 4,294,967,295.
+/// The value of a number of 1 to 10 digits, without a leading 0 unless it is `0` alone, and up to 4,294,967,295. `None`
+/// for any other bytes.
 pub fn parse_number(bytes: &[u8]) -> Option<u32>
     ensures { SomeIff result (IsTrue (is_number bytes.now)) (digits_value bytes.now) }
 {
@@ -24,8 +25,8 @@ pub fn parse_number(bytes: &[u8]) -> Option<u32>
     u32::try_from(value).ok()
 }
 
-/// Writes the decimal digits of a number at the start of a buffer, and answers how many there are. What stands behind
-/// them stays.
+/// Writes the decimal digits of a number at the start of a buffer, and returns how many there are. The bytes after them
+/// stay.
 pub fn print_number(n: u64, into: &mut [u8; 20]) -> usize
     ensures digits { take result into.new ≡ decimal n }
     ensures count { result ≡ length (decimal n) }

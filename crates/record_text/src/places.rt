@@ -1,11 +1,11 @@
-//! Places of leaves in a list that strictly rise, so that none is there twice.
+//! Places of leaves in a list, strictly rising, so that none occurs twice.
 ghost use Rattle.std.specs.Prelude.{◌≡◌, ◌<◌, ◌++◌, ◌∷◌, [], length, All, OnOk, OnErr, slice_index};
 ghost use Rattle.std.specs.List.Sorted.{IsStrictlyIncreasing};
 
 use std::alloc::{AllocError, Global};
 use std::marker::Model;
 
-/// Places in a list, seen as a strictly rising list of numbers.
+/// Places in a list, modelled as a strictly rising list of numbers.
 #[derive(Drop)]
 pub struct Places {
     items: Vec<usize>,
@@ -32,7 +32,7 @@ impl Places {
         }
     }
 
-    /// One place more, above all others.
+    /// Adds a place, which must be above all others.
     pub fn push(&mut self, place: usize) -> Result<(), AllocError>
         requires { All (λ p. p < place) self.old }
         ensures ok { OnOk result (self.new ≡ self.old ++ place ∷ []) }

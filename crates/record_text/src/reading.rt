@@ -1,4 +1,4 @@
-//! How far a reader is in its script, and what a look at the bytes that it holds shows of the next line.
+//! How far a reader is in its script, and what the bytes that it holds show of the next line.
 ghost use Rattle.std.specs.Prelude.{◌≡◌};
 ghost use Rattle.record_text.specs.Reading.{FoundIs};
 
@@ -6,10 +6,10 @@ use crate::ScriptFault;
 use crate::ahead::Ahead;
 use definitions::MOST_RECORD;
 
-/// What a look at the bytes ahead finds.
+/// What the bytes ahead show of the next line.
 #[derive(Clone, Copy, Debug, PartialEq, Eq)]
 pub enum Found {
-    /// A line of so many bytes, which with its line end has so many.
+    /// A line: its length in bytes without its line end, and with it.
     Line(usize, usize),
     /// The end of the script.
     End,
@@ -17,14 +17,14 @@ pub enum Found {
     Long,
     /// A line that goes on past the script's limit.
     Cut,
-    /// A line whose end is still to come.
+    /// A line whose end has not come yet.
     More,
 }
 
 /// How far a reader is in its script.
 #[derive(Drop)]
 pub struct Reading {
-    /// The bytes that were taken and not used yet.
+    /// The bytes that were taken and are not used yet.
     pub ahead: Ahead,
     /// How many bytes may still be taken.
     pub room: u64,
@@ -32,13 +32,13 @@ pub struct Reading {
     pub ended: bool,
     /// How many lines were used.
     pub line: u64,
-    /// The line of the last command that was answered.
+    /// The line of the last command that was returned.
     pub last: u64,
-    /// The fault that was answered.
+    /// The fault that was returned.
     pub fault: Option<ScriptFault>,
 }
 
-/// Looks for the next line.
+/// Looks for the next line in the bytes ahead.
 pub fn look(ahead: &mut Ahead, ended: bool, room: u64) -> Found
     ensures found { FoundIs ended room ahead.old result }
     ensures same { ahead.new ≡ ahead.old }

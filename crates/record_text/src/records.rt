@@ -1,5 +1,5 @@
-//! Lists of records, each held as one text, so that a command with many records takes two pieces of memory and is
-//! compared, copied and hashed as one.
+//! Lists of records. Each list is held as one text, so that it takes two pieces of memory however many records it has,
+//! and is compared, copied and hashed as one text.
 ghost use Rattle.std.specs.Prelude.{◌≡◌, ◌<◌, ◌≤◌, ◌++◌, ◌∷◌, [], ◌↔◌, length, IfOk, OnOk, OnErr, IsTrue, slice_index_or};
 ghost use Rattle.definitions.specs.Records.{IsRecord, AllRecords, text_of};
 
@@ -7,21 +7,22 @@ use definitions::MOST_RECORD;
 use std::alloc::{AllocError, Global};
 use std::marker::Model;
 
-/// Whether these bytes may be a record: at most 65,535 bytes, none of them LF.
+/// Whether these bytes are a record: at most 65,535 bytes, none of them LF.
 pub fn is_record(bytes: &[u8]) -> bool
     ensures { IsTrue result ↔ IsRecord bytes.now }
 {
     bytes.len() <= MOST_RECORD && !bytes.contains(&b'\n')
 }
 
-/// Where the bytes of a record stand in a text.
+/// Where the bytes of a record are in a text.
 #[derive(Clone, Copy)]
 struct Span {
     from: usize,
     to: usize,
 }
 
-/// At most 4,294,967,295 records, seen as a list of lists of bytes. They are held as their text, in one piece.
+/// A list of at most 4,294,967,295 records, modelled as a list of lists of bytes. It is held as the text of the
+/// records, in one piece.
 #[derive(Drop)]
 pub struct Records {
     text: Vec<u8>,
@@ -50,7 +51,8 @@ impl Records {
         }
     }
 
-    /// One record more, at the end. The bytes are copied.
+    /// Adds a record at the end of the list, which must not be full. Its bytes, which must be a record, are copied. Out
+    /// of memory, nothing changes.
     pub fn push(&mut self, bytes: &[u8]) -> Result<(), AllocError>
         requires record { IsRecord bytes.now }
         requires room { length self.old < 4294967295 }
@@ -98,7 +100,7 @@ impl Records {
         &self.text[from..to]
     }
 
-    /// The text of the records: the bytes of each and one LF, end to end. It is not copied.
+    /// The text of the records: the bytes of each and one LF, end to end. Nothing is copied.
     pub fn text(&self) -> &[u8]
         ensures { result.now ≡ text_of self.now }
     {
@@ -112,14 +114,14 @@ impl Records {
         self.text.len() as u64
     }
 
-    /// Whether these are equal records. It compares their texts.
+    /// Whether the records are equal. It compares two texts.
     pub fn same(&self, other: &Records) -> bool
         ensures { IsTrue result ↔ (self.now ≡ other.now) }
     {
         self.text == other.text
     }
 
-    /// The same records once more, with memory of their own.
+    /// A copy of the records, with memory of its own.
     pub fn copy(&self, alloc: Global) -> Result<Records, AllocError>
         ensures { IfOk result (λ copy. copy ≡ self.now) }
     {

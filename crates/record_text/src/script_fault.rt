@@ -1,10 +1,10 @@
-//! The faults that end a script at one of its lines: those of its own form, those of the window that it asks too much
-//! of, and those of the outside.
+//! The faults that end a script at one of its lines: of the script's form, of a command that the window or the job
+//! refuses, of a device, and of memory.
 
-/// Why a script ends before its end.
+/// Why a script stops before its end.
 #[derive(Clone, Copy, Debug, PartialEq, Eq)]
 pub enum Why {
-    /// A command word that the table lacks, or another number of fields.
+    /// An unknown command word, or a wrong number of fields.
     Unknown,
     /// A field that is no number.
     BadNumber,
@@ -18,11 +18,11 @@ pub enum Why {
     LongScript,
     /// A command that this kind of window lacks.
     NotHere,
-    /// More than there is, or than there may be.
+    /// A command that asks for more than there is, or than there may be.
     TooMany,
     /// A record that the job does not accept.
     BadRecord,
-    /// More text than a command or a window may have.
+    /// More text than the records of a command, or a window, may have.
     WindowLarge,
     /// The source failed.
     Read,

@@ -1,5 +1,5 @@
-//! Reads a script command by command while its bytes come in: what was answered depends on the bytes taken alone, and no
-//! more are taken than the next answer needs.
+//! Reads a script command by command while its bytes come in. What it returns depends only on the bytes taken, and it
+//! takes no more than the next command needs.
 ghost use Rattle.std.specs.Prelude.{◌≡◌, ◌≢◌, ◌<◌, ◌≤◌, ◌+◌, ◌-◌, ◌^◌, ◌++◌, ◌⊎◌, [], ℕ, List, length, take, true, false, IfOk, IfErr, IsErrOf, IsSome, None, Some, Err};
 ghost use Rattle.definitions.specs.Outside.{Told, Rose};
 ghost use Rattle.record_text.specs.Ahead.{most_piece};
@@ -16,8 +16,8 @@ use definitions::MOST_TEXT;
 use slider_io::Source;
 use std::alloc::Global;
 
-/// Reads the commands of a script from a source, one after the other. It takes from the source only while it holds no
-/// whole next line, and never after the source's end.
+/// Reads the commands of a script from a source, one after the other. It takes from the source only while it does not
+/// hold the next line whole, and never after the source's end.
 #[derive(Drop)]
 pub struct ScriptReader<'a, S: Source> {
     source: &'a mut S,
@@ -27,7 +27,7 @@ pub struct ScriptReader<'a, S: Source> {
 impl<'a, S: Source> ScriptReader<'a, S> {
     ghost use Rattle.record_text.specs.Reader.{reading_of, source_of};
 
-    /// A reader of the script that the source has left, of which the first `most` bytes count. It takes no memory.
+    /// A reader of the script that the source has left, of which only the first `most` bytes count. It takes no memory.
     pub fn new(source: &'a mut S, alloc: Global, most: u64) -> ScriptReader<'a, S>
         requires some { 1 ≤ most }
         requires size { most < 2 ^ 62 }
@@ -53,7 +53,7 @@ impl<'a, S: Source> ScriptReader<'a, S> {
         ScriptReader { source, reading }
     }
 
-    /// The source again, at what was not taken of it.
+    /// Gives the source back, with the bytes that were not taken.
     pub fn into_source(self) -> &'a mut S
         ensures same { result.ghost_name ≡ (source_of self.entry).ghost_name }
         ensures now { result.now ≡ (source_of self.entry).now }
@@ -63,14 +63,14 @@ impl<'a, S: Source> ScriptReader<'a, S> {
         source
     }
 
-    /// The line of the last command that was answered, or 0 before the first.
+    /// The line of the last command that was returned, or 0 before the first.
     pub fn line(&self) -> u64
         ensures { result ≡ (reading_of self.now).last }
     {
         self.reading.last
     }
 
-    /// Takes once.
+    /// Takes one piece from the source. It fails if the source does, or out of memory.
     fn fill(&mut self) -> Result<(), Why>
         requires room { 0 < self.old.reading.room }
         requires open { self.old.reading.ended ≡ false }
@@ -101,7 +101,7 @@ impl<'a, S: Source> ScriptReader<'a, S> {
         Ok(())
     }
 
-    /// Takes until the next line is held, or there is none.
+    /// Takes pieces until the next line is held, or there is none. It fails if the source does, or out of memory.
     fn look_ahead(&mut self) -> Result<Found, Why>
         requires { Sound self.old.reading (S.left self.old.source.now) }
         ensures same { self.new.source.ghost_name ≡ self.old.source.ghost_name }
@@ -129,7 +129,7 @@ impl<'a, S: Source> ScriptReader<'a, S> {
         }
     }
 
-    /// The next line, as its length without and with its line end, or none at the end.
+    /// The length of the next line without and with its line end, or `None` at the end.
     fn next_line(&mut self) -> Result<Option<(usize, usize)>, ScriptFault>
         requires { Sound self.old.reading (S.left self.old.source.now) }
         ensures line { NextLineIs self.old.reading.line self.new.reading.ended self.new.reading.room self.new.reading.ahead result }
@@ -159,7 +159,7 @@ impl<'a, S: Source> ScriptReader<'a, S> {
         }
     }
 
-    /// The record lines of a command.
+    /// Reads the record lines of a command.
     fn read_records(&mut self, alloc: Global, n: u32) -> Result<Records, ScriptFault>
         requires { Sound self.old.reading (S.left self.old.source.now) }
         ensures reads { (used : List ℕ) × Uses self.old.reading self.new.reading (S.left self.old.source.now) (S.left self.new.source.now) used
@@ -206,7 +206,7 @@ impl<'a, S: Source> ScriptReader<'a, S> {
         Ok(got)
     }
 
-    /// The next command, or none at the end.
+    /// Reads the next command; `None` at the end.
     fn command(&mut self, alloc: Global) -> Result<Option<Command>, ScriptFault>
         requires { Sound self.old.reading (S.left self.old.source.now) }
         ensures reads { (used : List ℕ) × Uses self.old.reading self.new.reading (S.left self.old.source.now) (S.left self.new.source.now) used
@@ -252,8 +252,13 @@ impl<'a, S: Source> ScriptReader<'a, S> {
         }
     }
 
-    /// The next command, or none at the end of the script, and from then on. After a fault every later call answers the
-    /// same fault. Each byte is read once; a command is held with its records, and beside it one line and one piece.
+    /// The next command; `None` at the end of the script and from then on. Each byte is read once. Memory holds the
+    /// command with its records, one line, and one piece.
+    ///
+    /// # Errors
+    ///
+    /// The fault that ends the script, with its line: one of form, a failed read, or out of memory. Every later call
+    /// returns the same fault.
     pub fn next(&mut self, alloc: Global) -> Result<Option<Command>, ScriptFault>
         requires { Sound (reading_of self.old) (S.left (source_of self.old).now) }
         ensures told { Told (S.left (source_of self.old).now) (S.left (source_of self.new).now) (λ l m. NextTold (to_come (reading_of self.old) l) (to_come (reading_of self.new) m) (reading_of self.new).last result) }

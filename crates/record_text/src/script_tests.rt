@@ -1,4 +1,4 @@
-//! Tests of scripts, with answers written by hand.
+//! Tests of scripts, with expected values written by hand.
 ghost use Rattle.std.specs.Prelude.{◌<◌, ◌≤◌, ◌^◌};
 
 use crate::{Command, ScriptReader};
@@ -27,7 +27,7 @@ fn spelled(alloc: Global, command: &Command, line: u64) -> Result<String, AllocE
     }
 }
 
-/// What a reader answers in so many calls.
+/// What a reader returns in a given number of calls.
 fn some_answers<S: Source>(
     alloc: Global,
     source: &mut S,
@@ -50,7 +50,7 @@ fn some_answers<S: Source>(
     Ok(text)
 }
 
-/// The same of a script, where a take gives `piece` bytes at most and those with these numbers fail.
+/// The same for a script of which a take gives at most `piece` bytes, and the takes with these numbers fail.
 fn answers(
     alloc: Global,
     script: &[u8],

@@ -1,4 +1,4 @@
-//! What a command line asks for: its word chooses a row of the table, and its fields fill it.
+//! The table of commands: the word of a command line chooses a row, and its fields fill it.
 ghost use Rattle.std.specs.Prelude.{◌≡◌, ◌≢◌, All, IfOk};
 ghost use Rattle.record_text.specs.Fields.{IsField, fields_behind};
 ghost use Rattle.record_text.specs.Table.{RefusesForm, asked, command_of, row_of};
@@ -8,7 +8,7 @@ use crate::words::{Word, word_of};
 use crate::{Command, Name, Records, Why};
 use std::alloc::{AllocError, Global};
 
-/// A command without its record lines.
+/// A command without its records.
 #[derive(Drop)]
 pub enum Head {
     OfBucket,
@@ -46,7 +46,7 @@ impl Head {
     }
 }
 
-/// What a command line asks for: a command with so many record lines, or a fault.
+/// What a command line asks for: a command with a number of record lines, or a fault.
 #[derive(Drop)]
 pub enum Asked {
     Asks(Head, u32),

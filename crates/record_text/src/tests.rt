@@ -61,7 +61,7 @@ fn names_have_255_bytes_without_space_and_lf(rt: HostRuntime) {
     }
 }
 
-/// How two names are ordered and whether they are equal, or none where one is no name.
+/// How two names are ordered and whether they are equal; `None` if one is no name.
 fn ordered(
     alloc: Global,
     left: &[u8],

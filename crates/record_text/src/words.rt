@@ -1,4 +1,4 @@
-//! Which bytes are command words: the one place where they are spelled.
+//! The command words, spelled in this one place.
 ghost use Rattle.std.specs.Prelude.{◌≡◌};
 ghost use Rattle.record_text.specs.Table.{word_of};
 
@@ -15,7 +15,7 @@ pub enum Word {
     Run,
 }
 
-/// The command word that these bytes are, or none.
+/// The command word that these bytes spell, if any.
 pub fn word_of(bytes: &[u8]) -> Option<Word>
     ensures { result ≡ word_of bytes.now }
 {

@@ -116,7 +116,7 @@ module _ {J V M : Type 0} (good : ℕ → V → Type 0) (joined : ℕ → V → 
         ∙ ap (λ ys. ys ++ map entries fresh) (map-late entries changed news (drop gone leaves) ∙ ap (put_at changed (map entries news)) (sym (drop-map entries gone leaves)))
         ∙ ap (λ ys. put_at changed (map entries news) (drop gone (map entries leaves)) ++ ys) (sym (drop-map entries (length changed) news))
 
-    -- Each key of a place of the draft stands in the shifted tables.
+    -- Each key of a place of the draft is in the shifted tables.
     pub within-ahead : AllSome (λ (s : SheetOf V). IsWithin s.entries (put_at changed (tables_of news) (drop gone (tables_of (window n at (undrafted node0)))) ++ drop (length changed) (tables_of news))) (advanced kept changed news (slots n next.start (places_of node0)))
     within-ahead =
         subst (AllSome (λ (s : SheetOf V). IsWithin s.entries (put_at changed (tables_of news) (drop gone (tables_of leaves)) ++ drop (length changed) (tables_of news)))) (sym slots-ahead)
@@ -188,7 +188,7 @@ module _ {J V M : Type 0} (good : ℕ → V → Type 0) (joined : ℕ → V → 
     next = undrafted_settled node;
   }
 
-  -- A circle whose draft stands can be settled or dropped.
+  -- A circle with a draft can be settled or reverted.
   pub circle-marked : (at next : Standing) (node : Node J V M) → IsCircle good joined setting n width at (Some next) node → IsMarked node
   circle-marked at next node circle = circle.next.0
 
@@ -198,7 +198,7 @@ module _ {J V M : Type 0} (good : ℕ → V → Type 0) (joined : ℕ → V → 
   pub circle-leaves : (at : Standing) (node : Node J V M) → IsCircle good joined setting n width at None node → AllSome (IsLeaf good setting) (places_of node)
   circle-leaves at node circle = subst (λ m. AllSome (IsLeaf good setting) (places_of m)) (settled-undrafted node circle.next) circle.now.leaves_are
 
-  -- Where no draft stands, there are fewer pins than leaves.
+  -- Without a draft there are fewer pins than leaves.
   pub circle-few : (digest_of : PairOf V → List ℕ) (at : Standing) (node : Node J V M) → IsCircle good joined setting n width at None node → length (node_pins digest_of node) ≤ length (tables_of (window n at (undrafted node))) - 1
   circle-few digest_of at node circle =
       let plain : undrafted node ≡ node = settled-undrafted node circle.next in

@@ -1,4 +1,4 @@
--- What is said of all leaves, said of places, of slots and of the nodes over them.
+-- What holds of all leaves, stated for places, for slots and for the nodes over them.
 use Rattle.std.proofs.Common.{◌≡◌, ℕ, suc, zero, ◌-◌, ◌≤◌, arith, sym, ap, ◌∙◌, List, [], ◌∷◌, ◌++◌, length, length-append, refl, subst, Option, Some, None, set, take, drop, map, append-nil}
 use Rattle.std.proofs.lemmas.List.{take-append-drop, take-take}
 use Rattle.std.specs.Prelude.{IfSome}
@@ -37,14 +37,14 @@ module _ {X : Type 0} (P : X → Type 0) where
   all-voids zero = tt
   all-voids (suc k) = (tt, all-voids k)
 
-  -- All slots, and all places behind them, are all places.
+  -- All slots, and all places after them, are all places.
   pub all-slots : (n start : ℕ) (xs : List (Option X)) → start ≤ n → AllSome P (slots n start xs) → AllSome P (drop n xs) → AllSome P xs
   all-slots n start xs le a b =
       let first : AllSome P (take start (take n xs)) = subst (AllSome P) (sym (take-take start n xs le)) (all-right (drop start (take n xs)) (take start xs) a) in
       let front : AllSome P (take n xs) = subst (AllSome P) (take-append-drop start (take n xs)) (all-append (take start (take n xs)) (drop start (take n xs)) first (all-left (drop start (take n xs)) (take start xs) a)) in
       subst (AllSome P) (take-append-drop n xs) (all-append (take n xs) (drop n xs) front b)
 
--- Found leaves, of rows and of parts of a list.
+-- The leaves found in rows and in parts of a list.
 pub found-append : {X : Type 0} (xs ys : List (Option X)) → found (xs ++ ys) ≡ found xs ++ found ys
 found-append [] ys = refl
 found-append (None ∷ xs) ys = found-append xs ys
@@ -61,7 +61,7 @@ found-voids X (suc k) = found-voids X k
 pub found-row : {X : Type 0} (n : ℕ) (leaves : List X) → found (row n leaves) ≡ leaves
 found-row {X} n leaves = found-some leaves (voids (n - length leaves)) ∙ ap (λ l. leaves ++ l) (found-voids X (n - length leaves)) ∙ append-nil leaves
 
--- As many leaves stand in the slots as at the places, where those behind the slots are void.
+-- As many leaves are in the slots as at the places, if those after the slots are void.
 pub found-slots : {X : Type 0} (n start k : ℕ) (xs : List (Option X)) → start ≤ n → drop n xs ≡ voids k → length (found (slots n start xs)) ≡ length (found xs)
 found-slots {X} n start k xs le rest =
     let a = drop start (take n xs) in
@@ -72,7 +72,7 @@ found-slots {X} n start k xs le rest =
     omega (arith, ap length first, ap length whole, ap length front, length-append (found a) (found b), length-append (found b) (found a), length-append (found (take n xs)) [])
 
 module _ {V : Type 0} where
-  -- Each key of a leaf stands in one of the leaves.
+  -- Each key of a leaf is in one of the leaves.
   pub within-leaves : (leaves : List (SheetOf V)) (ts : List (List (List ℕ × V))) → ((t : List (List ℕ × V)) → IsWithin t (tables_of leaves) → IsWithin t ts) → AllSome (λ (s : SheetOf V). IsWithin s.entries ts) (map Some leaves)
   within-leaves [] ts f = tt
   within-leaves (s ∷ leaves) ts f = (f s.entries (within-first s.entries (tables_of leaves)), within-leaves leaves ts (λ t w. f t (within-next t s.entries (tables_of leaves) w)))
@@ -89,7 +89,7 @@ shared-leaf good setting item leaf same rising values is = subst (IsLeaf good se
 })
 
 module _ {J V M : Type 0} (joined : ℕ → V → V → V) where
-  -- What holds of leaves, and of a merge where it holds of what is merged, holds of nodes.
+  -- What holds of leaves, and is kept by merges, holds of nodes.
   module _ (P : SheetOf V → Type 0) (merges : (a b : SheetOf V) → P a → P b → P (merge_of joined (pair_of a b))) where
     pub joined-so : (a b : Option (SheetOf V)) (part : Part J V M) → IsJoined joined a b part → IfSome a P → IfSome b P → IfSome (part_sheet part) P
     joined-so None None Void h x y = tt

@@ -1,4 +1,4 @@
--- A tree that is as low as its places allow has no more than their levels.
+-- A tree that is as low as its places allow has at most their levels.
 use Rattle.std.proofs.Common.{◌≡◌, inl, inr, ℕ, suc, zero, ◌*◌, ◌<◌, ◌≤◌, ◌^◌, arith, subst}
 use Rattle.std.proofs.lemmas.Bool.{cases_lt}
 use Rattle.std.proofs.Math.Nat.{mul-le-mul_right, pow-suc}

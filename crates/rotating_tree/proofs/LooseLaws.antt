@@ -26,7 +26,7 @@ pub or-right : (a b : Bool) → b ≡ true → (a || b) ≡ true
 or-right true b e = refl
 or-right false b e = e
 
--- Where each of two is so only if it was so before or M holds, the two are.
+-- If each of two flags is set only if it was set before or M holds, the same holds of both together.
 pub or-met : (M : Type 0) (a b c d : Bool) → (a ≡ true → (c ≡ true) ⊎ M) → (b ≡ true → (d ≡ true) ⊎ M) → (a || b) ≡ true → ((c || d) ≡ true) ⊎ M
 or-met M a b c d f g e = elim (or-cases a b e) [
   | inl x ↦ elim (f x) [ inl y ↦ inl (or-left c d y) | inr m ↦ inr m ]
@@ -36,11 +36,11 @@ or-met M a b c d f g e = elim (or-cases a b e) [
 pub or-same : (a b c d : Bool) → (a ≡ true → c ≡ true) → (b ≡ true → d ≡ true) → (a || b) ≡ true → (c || d) ≡ true
 or-same a b c d f g e = elim (or-cases a b e) [ inl x ↦ or-left c d (f x) | inr x ↦ or-right c d (g x) ]
 
--- One more of the three is no less.
+-- Three flags instead of two.
 pub or-wider : (a b c : Bool) → (a || b) ≡ true → (a || (b || c)) ≡ true
 or-wider a b c e = or-same a b a (b || c) (λ x. x) (or-left b c) e
 
--- How many pins stand under a sheet: fewer than leaves.
+-- The pins under a sheet are fewer than its leaves.
 abbrev pub Enough : {X : Type 0} → Option X → ℕ → ℕ → Type 0
 Enough None pins leaves = (pins ≡ 0) × (leaves ≡ 0)
 Enough (Some x) pins leaves = pins + 1 ≤ leaves

@@ -20,7 +20,7 @@ module _ {J V M : Type 0} where
   pub void-joined : (joined : ℕ → V → V → V) (l r : Node J V M) → now_of l ≡ None → now_of r ≡ None → IsJoined {J = J} {V = V} {M = M} joined (now_of l) (now_of r) Void
   void-joined joined l r a b = subst (λ (o : Option (SheetOf V)). IsJoined {J = J} {V = V} {M = M} joined o (now_of r) Void) (sym a) (subst (λ (o : Option (SheetOf V)). IsJoined {J = J} {V = V} {M = M} joined None o Void) (sym b) tt)
 
-  -- A node, told by halves that equal its own.
+  -- A node, given by halves that equal its own.
   pub at-fork : (n l r l2 r2 : Node J V M) (p q : Box (Unit {0}) Global) (now : Part J V M) (draft : Draft J V M) → n ≡ Fork' p l q r now draft → l2 ≡ l → r2 ≡ r → n ≡ Fork' p l2 q r2 now draft
   at-fork n l r l2 r2 p q now draft is a b = is ∙ ap (λ m. Fork' p m q r now draft) (sym a) ∙ ap (λ m. Fork' p l2 q m now draft) (sym b)
 
@@ -114,7 +114,7 @@ module _ {J V M : Type 0} where
   plain-next now Due s h = h
   plain-next now (New part) s h = s
 
-  -- Where nothing is due below a staged node, its draft is as sound as it is.
+  -- If nothing is due below a staged node, its draft is as sound as it is.
   pub staged-sound : (joined : ℕ → V → V → V) (n : Node J V M) → IsStaged n → is_due n ≡ false → IsSound joined (undrafted n) → IsSound joined (taken n)
   staged-sound joined (Leaf now draft) s e h = plain-next now draft s h
   staged-sound joined (Fork' p l q r now Same) s e h = subst (IsSound joined) (settled-undrafted (Fork' p l q r now Same) (s.0, s.1, refl) ∙ sym (settled-taken (Fork' p l q r now Same) (s.0, s.1, refl))) h
@@ -170,7 +170,7 @@ module _ {J V M : Type 0} where
 pub fork-merges : (k k2 a b : ℕ) → k ≡ k2 → 0 < a + b → k * a + (k2 * b + 1) ≤ (k + 1) * (a + b)
 fork-merges k k2 a b e some = grind (arith, ap (λ x. x * b) e)
 
--- What a tree costs after drafts at so many places.
+-- What a tree costs after drafts at a number of places.
 pub redraft-merges : (h h2 d0 d1 c : ℕ) → h2 ≡ h → d0 ≡ 0 → d1 ≤ d0 + c → h2 * d1 ≤ h * c
 redraft-merges h h2 d0 d1 c same none few =
     let k : d1 ≤ c = omega (arith, none, few) in

@@ -18,11 +18,11 @@ balanced-three u v w x hs bs cs ds es fs a b c =
     (balanced-then v w x (ds ++ (bs ++ cs)) (ds ++ (es ++ cs)) (ds ++ (es ++ fs)) (balanced-beside v w ds (bs ++ cs) (es ++ cs) (balanced-before v w cs bs es b))
     (balanced-beside w x ds (es ++ cs) (es ++ fs) (balanced-beside w x es cs fs c)))
 
--- Two lists of pins that go up to their order.
+-- Two lists of pins that are equal up to their order.
 pub swap-counts : (hs bs : List PinName) (s id : ℕ) → count s id (hs ++ bs) ≡ count s id (bs ++ hs)
 swap-counts hs bs s id = omega (arith, count-append s id hs bs, count-append s id bs hs)
 
--- The halves' pins go their way, and what is made is got.
+-- The halves' pins are balanced, and the new pin is added.
 pub fork-balanced : (u v w x : CallerView) (hs bs ds es ms : List PinName) → Balanced u hs v ds → Balanced v bs w es → Got w ms x → Balanced u (hs ++ bs) x (ds ++ (es ++ ms))
 fork-balanced u v w x hs bs ds es ms a b got =
     subst (λ (ps : List PinName). Balanced u (hs ++ bs) x ps) (append_assoc ds es ms)
@@ -73,11 +73,11 @@ between-covered u hs bs cs ds c =
           omega (arith, h, a, b, d, e, f);
     }
 
--- One part takes another's place, which is let go.
+-- One part replaces another, which is given up.
 pub turn-balanced : (u w : CallerView) (olds news : List PinName) → ((ps : List PinName) → Balanced u (olds ++ ps) w ps) → Balanced u (olds ++ news) w (news ++ [])
 turn-balanced u w olds news b = subst (λ (ps : List PinName). Balanced u (olds ++ news) w ps) (sym (append-nil news)) (b news)
 
--- A draft is let go beside what stands.
+-- A draft is given up, and the rest stays.
 pub drop-balanced : (u w : CallerView) (own ds : List PinName) → ((ps : List PinName) → Balanced u (ds ++ ps) w ps) → Balanced u (own ++ ds) w (own ++ [])
 drop-balanced u w own ds b =
     subst (λ (ps : List PinName). Balanced u (own ++ ds) w ps) (sym (append-nil own)) (balanced-from u w (own ++ ds) (ds ++ own) own (swap-counts own ds) (b own))
@@ -86,7 +86,7 @@ pub drop-alone : (u w : CallerView) (ds : List PinName) → ((ps : List PinName)
 drop-alone u w ds b = subst (λ (ps : List PinName). Balanced u ps w []) (append-nil ds) (b [])
 
 module _ {J V M : Type 0} (digest_of : PairOf V → List ℕ) where
-  -- What stands after a draft was given where it and its draft were.
+  -- The pins after a draft were given if those of the node and of its draft were.
   pub given-next : (c : CallerView) (now : Part J V M) (draft : Draft J V M) → AreGiven c (part_pins digest_of now ++ draft_pins digest_of draft) → AreGiven c (part_pins digest_of (next_by now draft) ++ [])
   given-next c now Same g = g
   given-next c now Due g = g

@@ -1,4 +1,4 @@
--- A node made anew from its halves: its pins, its merges, and whether it is loose.
+-- A node made again from its halves: its pins, its merges, and whether it is loose.
 use Rattle.std.proofs.Common.{◌≡◌, ◌⊎◌, inl, inr, ℕ, ◌+◌, ◌*◌, ◌<◌, ◌≤◌, ◌||◌, arith, sym, ap, ◌∙◌, List, [], ◌++◌, subst, true, false, Bool}
 use Rattle.std.proofs.Math.Nat.{mul-le-mul_right}
 use Rattle.job_laws.specs.declared.meter.Counts.{Counts}
@@ -26,14 +26,14 @@ fork-rose hl hr dl dr keys x0 x1 x2 x3 even some a b c =
     rose_more 0 (hl * dl + (hr * dr + 1)) (hl * dl * keys + (hr * dr * keys + keys)) 0 ((hl + 1) * (dl + dr)) ((hl + 1) * (dl + dr) * keys) x0 x3 (omega arith) merges (subst (λ (k : ℕ). k ≤ (hl + 1) * (dl + dr) * keys) (sym spread) joins)
     (rose_then 0 (hl * dl) (hl * dl * keys) 0 (hr * dr + 1) (hr * dr * keys + keys) x0 x1 x3 a (rose_then 0 (hr * dr) (hr * dr * keys) 0 1 keys x1 x2 x3 b c))
 
--- What a tree costs after drafts at so many of its places.
+-- What a tree costs after drafts at a number of its places.
 pub redraft-rose : (h h2 d0 d1 c keys : ℕ) (x y : Counts) → h2 ≡ h → d0 ≡ 0 → d1 ≤ d0 + c → RoseBy 0 (h2 * d1) (h2 * d1 * keys) x y → RoseBy 0 (h * c) (h * c * keys) x y
 redraft-rose h h2 d0 d1 c keys x y same none few rose =
     let merges : h2 * d1 ≤ h * c = redraft-merges h h2 d0 d1 c same none few in
     rose_more 0 (h2 * d1) (h2 * d1 * keys) 0 (h * c) (h * c * keys) x y (omega arith) merges (mul-le-mul_right keys merges) rose
 
 module _ (u v w x : CallerView) where
-  -- Where each half is loose only if it was or the caller met what makes one so, and what is made likewise.
+  -- If each half, and the new part, is loose only if it was or the caller met what makes it so.
   pub fork-loose : (l0 r0 l1 r1 made : Bool) → IsLater u v → IsLater v w → IsLater w x → (l1 ≡ true → (l0 ≡ true) ⊎ Met u v) → (r1 ≡ true → (r0 ≡ true) ⊎ Met v w) → (made ≡ true → Met w x) → (l1 || (r1 || made)) ≡ true → ((l0 || r0) ≡ true) ⊎ Met u x
   fork-loose l0 r0 l1 r1 made a b c f g h e = elim (or-cases l1 (r1 || made) e) [
     | inl y ↦ elim (f y) [

@@ -50,7 +50,7 @@ module _ {V : Type 0} (good : ℕ → V → Type 0) (joined : ℕ → V → V �
       (halves-merge (tables_of (found (places l))) (tables_of (found (places r))) (now_of l) (now_of r) now s.2 (sound-merge l s.0 left) (sound-merge r s.1 right) (good-tables (places l) left) (good-tables (places r) right))
 
   module _ (comm : (a b : V) → good setting a → good setting b → joined setting a b ≡ joined setting b a) where
-    -- Two lists of tables may stand in either order.
+    -- Two lists of tables may be merged in either order.
     swap-merge : (ts us : List (List (List ℕ × V))) → AllGoodTables (joined setting) (good setting) laws ts → AllGoodTables (joined setting) (good setting) laws us → merged_all (joined setting) (ts ++ us) ≡ merged_all (joined setting) (us ++ ts)
     swap-merge [] us x y = ap (merged_all (joined setting)) (sym (append-nil us))
     swap-merge (t ∷ ts) [] x y = ap (merged_all (joined setting)) (append-nil (t ∷ ts))

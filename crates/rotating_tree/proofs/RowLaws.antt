@@ -1,4 +1,4 @@
--- Rows of places in a circle, when a window goes on.
+-- Rows of places in a circle, when a window moves on.
 use Rattle.std.proofs.Common.{◌≡◌, ◌⊎◌, inl, inr, ℕ, suc, zero, ◌+◌, ◌-◌, ◌*◌, ◌<◌, ◌≤◌, arith, sym, ap, ◌∙◌, List, [], ◌∷◌, ◌++◌, length, length-append, length-take, length-drop, refl, Option, Some, None, set, take, drop, map, append_assoc, ◌^◌, add-one}
 use native.Mathlib.Nat.{pow-suc}
 use Rattle.std.proofs.lemmas.List.{set-append_left, take-append-drop, drop-drop, take-take, length-set, length-map, drop-append-le, take-append-le, append-nil, drop_all, map-append, drop-map, drop-take, drop_at, take_at, map-set}
@@ -15,7 +15,7 @@ drop_voids V zero k = let e : k ≡ k - 0 = omega arith in ap (voids {X = V}) e
 drop_voids V (suc f) zero = let e : 0 ≡ 0 - suc f = omega arith in ap (voids {X = V}) e
 drop_voids V (suc f) (suc k) = let e : k - f ≡ suc k - suc f = omega arith in drop_voids V f k ∙ ap (voids {X = V}) e
 
--- What a shift puts at places of leaves changes the leaves alone.
+-- What a shift puts at places of leaves changes only the leaves.
 pub late_row : {X : Type 0} (leaves : List X) (rest : List (Option X)) (ps : List ℕ) (vs : List X) → All (λ p. p < length leaves) ps → put_at ps (map Some vs) (map Some leaves ++ rest) ≡ map Some (put_at ps vs leaves) ++ rest
 late_row leaves rest [] vs a = refl
 late_row leaves rest (p ∷ ps) [] a = refl
@@ -37,7 +37,7 @@ turn_on s g ys le =
     ∙ ap (λ zs. zs ++ take g (drop s ys)) (sym (drop-append-le g (drop s ys) (take s ys) room))
     ∙ ap (λ zs. drop g (drop s ys ++ take s ys) ++ zs) (sym (take-append-le g (drop s ys) (take s ys) room))
 
--- The same where that place is behind the last.
+-- The same if that place is past the last.
 pub turn_round : {X : Type 0} (s g t : ℕ) (ys : List X) → s ≤ length ys → t ≤ s → s + g ≡ length ys + t → drop t ys ++ take t ys ≡ drop g (drop s ys ++ take s ys) ++ take g (drop s ys ++ take s ys)
 turn_round s g t ys le small is =
     let far : length (drop s ys) ≡ length ys - s = length-drop s ys in
@@ -106,7 +106,7 @@ voids_twice V h lt =
     let sum : 2 ^ (h - 1) + 2 ^ (h - 1) ≡ 2 ^ h = omega (arith, twice, ap (λ k. 2 ^ k) one) in
     voids_add V (2 ^ (h - 1)) (2 ^ (h - 1)) ∙ ap (voids {X = V}) sum
 
--- So many void places of more.
+-- A number of void places, out of more.
 pub take_voids : (X : Type 0) (i k : ℕ) → i ≤ k → take i (voids {X = X} k) ≡ voids {X = X} i
 take_voids X zero k le = refl
 take_voids X (suc i) zero le = absurd (omega (arith, le))

@@ -1,4 +1,4 @@
--- How a tree is seen before and after its calls.
+-- The model of a tree before and after its calls.
 use Rattle.std.proofs.Common.{◌≡◌, ◌⊎◌, inl, inr, ℕ, ◌+◌, ◌*◌, sym, ap, ◌∙◌, List, [], ◌++◌, length, refl, subst, Option, Some, None, true, false, true≢false, drop}
 use Rattle.std.specs.Prelude.{IsSome}
 use Rattle.sheets.specs.Sheets.{SheetOf}
@@ -24,7 +24,7 @@ abbrev tree_of : {V : Type 0} → ℕ → ℕ → Leaves V → Option (Leaves V)
 tree_of setting n leaves draft = record { setting = setting; places = n; leaves = leaves; draft = draft }
 
 module _ {J V M : Type 0} (digest_of : PairOf V → List ℕ) (setting n : ℕ) (at : Standing) (node : Node J V M) where
-  -- What a tree is seen as says its places and how many leaves it has, so a shift that fits what is seen fits the circle.
+  -- The model of a tree says its places and the number of its leaves, so a shift that fits the model fits the circle.
   module _ (good : ℕ → V → Type 0) (joined : ℕ → V → V → V) (width : ℕ) (draft : Option Standing) (seen : Seen V) (is : seen_of digest_of setting n at draft node ≡ seen) (circle : IsCircle good joined setting n width at draft node) where
     pub seen-count : length seen.tree.leaves.tables ≡ at.count
     seen-count = sym (ap (λ (t : Seen V). length t.tree.leaves.tables) is) ∙ length-map (window n at (undrafted node)) (λ s. s.entries) ∙ sym circle.now.count_is
@@ -74,7 +74,7 @@ module _ {J V M : Type 0} (digest_of : PairOf V → List ℕ) (setting n : ℕ) 
           };
         }
 
-    -- A tree that no draft stands beside.
+    -- A tree without a draft.
     pub seen-some : draft ≡ None → IsSome seen.tree.draft → ⊥
     seen-some none some =
         let no : false ≡ true = subst (λ (o : Option (Leaves V)). IsSome o) (sym (ap (λ (t : Seen V). t.tree.draft) is) ∙ ap (λ (o : Option Standing). draft_of n o node) none) some in
@@ -83,14 +83,14 @@ module _ {J V M : Type 0} (digest_of : PairOf V → List ℕ) (setting n : ℕ) 
     pub seen-plain : draft ≡ None → seen.tree ≡ reverted seen.tree
     seen-plain none = subst (λ (t : TreeView V). t ≡ reverted t) (ap (λ (o : Option Standing). (seen_of digest_of setting n at o node).tree) (sym none) ∙ ap (λ (t : Seen V). t.tree) is) refl
 
-    -- What a draft's node that is loose comes of.
+    -- Why a node of a draft is loose.
     pub seen-loose : (next : Standing) (M : Type 0) → undrafted node ≡ node → (node_loose (taken m) ≡ true → (node_loose node ≡ true) ⊎ M) → LooseOnlyIf M seen.tree (seen_of digest_of setting n at (Some next) m).tree
     seen-loose next M plain f draft e h =
         let same : leaves_of n next (taken m) ≡ draft = (let some : Some (leaves_of n next (taken m)) ≡ Some draft = e in cc) in
         let old : node_loose (undrafted node) ≡ seen.tree.leaves.loose = ap (λ (t : Seen V). t.tree.leaves.loose) is in
         elim (f (ap (λ (l : Leaves V). l.loose) same ∙ h)) [ inl x ↦ inl (sym old ∙ ap node_loose plain ∙ x) | inr y ↦ inr y ]
 
-    -- What a shift costs, told by what is seen.
+    -- What a shift costs, by the model.
     pub seen-counted : (shift : Shift) (first gone came : ℕ) (changed : List ℕ) (news : List (SheetOf V)) (x y : Counts) → shift ≡ Slide first gone changed came → length news ≡ length changed + came
         → RoseBy 0 (length news * levels n) (length news * levels n * distinct_keys (shifted (Slide first gone changed came) (tables_of news) (tables_of (window n at (undrafted node))))) x y
         → RoseBy 0 (changed_of shift * levels seen.tree.places) (changed_of shift * levels seen.tree.places * distinct_keys (shifted shift (tables_of news) seen.tree.leaves.tables)) x y

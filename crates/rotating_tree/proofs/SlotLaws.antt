@@ -1,4 +1,4 @@
--- Places in the order of a window: what a write at one of them is, and where the window begins.
+-- Places in the order of a window: a write at one of them, and the place where the window begins.
 use Rattle.std.proofs.Common.{◌≡◌, ℕ, suc, zero, ◌+◌, ◌-◌, ◌<◌, ◌≤◌, arith, sym, ap, ◌∙◌, List, [], ◌∷◌, ◌++◌, length, length-append, length-take, length-drop, refl, Option, Some, None, set, take, drop, map, append_assoc, get_or, ◌⊎◌, inl, inr}
 use Rattle.std.proofs.lemmas.List.{set-append_left, set-append_right, take-set-le, drop-set-add, drop-set-lt, take-take, length-take-le, length-map, drop_more, set_at, map_more}
 use Rattle.record_text.specs.Shifts.{put_at}
@@ -57,7 +57,7 @@ place_next row ps vs i p v in_ps in_vs place is =
     ∙ sym (ap (λ qs. put_at qs (map Some (drop i vs)) row) (drop_more ps i 0 in_ps)
     ∙ ap (λ us. put_at (get_or ps i 0 ∷ drop (i + 1) ps) (map Some us) row) (drop_more vs i v in_vs))
 
--- The slots from the new first place on, where it is the old one's successor.
+-- The slots from the new first place on, if it is the old one's successor.
 pub slots_turn : {X : Type 0} (n old gone new : ℕ) (xs : List X) → n ≤ length xs → old < n → gone ≤ n → new < n → (new ≡ old + gone) ⊎ (new + n ≡ old + gone) → slots n new xs ≡ drop gone (slots n old xs) ++ take gone (slots n old xs)
 slots_turn n old gone new xs long a b c way =
     let size : length (take n xs) ≡ n = length-take n xs ∙ omega (arith, long) in

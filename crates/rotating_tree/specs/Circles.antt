@@ -11,48 +11,48 @@ use Rattle.rotating_tree.specs.declared.node.Node.{Node}
 use Rattle.rotating_tree.specs.declared.standing.Standing.{Standing}
 use Rattle.rotating_tree.specs.Nodes.{AllSome, places, taken, undrafted, size, height, drafts, node_pins, node_loose, IsSound, IsEven, IsSettled, IsStaged, IsMarked}
 
--- How many places of a window change by a shift: those with a fresh leaf, and those whose leaf gained records.
+-- How many places of a window a shift changes: those with a fresh leaf, and those whose leaf gained records.
 abbrev pub changed_of : Shift → ℕ
 changed_of (Slide first gone places fresh) = length places + fresh
 changed_of (Splice first gone fresh) = fresh
 
--- The place of the leaf that is `at` steps behind the first one, which stands at `start` in a circle of `n` places.
+-- The place of the leaf that is `at` steps after the first one, which is at `start` in a circle of `n` places.
 abbrev pub IsPlaceOf : ℕ → ℕ → ℕ → ℕ → Type 0
 IsPlaceOf n start at place = (place < n) × ((place ≡ start + at) ⊎ (place + n ≡ start + at))
 
--- The place of the first leaf after `gone` ones went: so many steps on, or any place where all leaves are fresh.
+-- The place of the first leaf after `gone` ones left: that many steps on, or any place if all leaves are fresh.
 abbrev pub IsTurn : ℕ → ℕ → ℕ → ℕ → ℕ → Type 0
 IsTurn n old gone new fresh = (new < n) × ((new ≡ old + gone) ⊎ ((new + n ≡ old + gone) ⊎ (fresh ≡ n)))
 
--- The first `n` items, from the place `start` on and round.
+-- The `n` items from the place `start` on, around the circle.
 abbrev pub slots : {X : Type 0} → ℕ → ℕ → List X → List X
 slots n start xs = drop start (take n xs) ++ take start xs
 
--- The row with the fresh items behind the `kept` first ones.
+-- The row with the fresh items after the `kept` first ones.
 abbrev pub with_fresh : {X : Type 0} → ℕ → List X → List (Option X) → List (Option X)
 with_fresh kept fresh row = take kept row ++ map Some fresh ++ drop (kept + length fresh) row
 
--- The row with what a shift brings: the first items at the changed places, the rest behind the `kept` first ones.
+-- The row with what a shift brings: the first items at the changed places, the rest after the `kept` first ones.
 abbrev pub advanced : {X : Type 0} → ℕ → List ℕ → List X → List (Option X) → List (Option X)
 advanced kept changed news row = with_fresh kept (drop (length changed) news) (put_at changed (map Some news) row)
 
--- So many void places.
+-- A number of void places.
 abbrev pub voids : {X : Type 0} → ℕ → List (Option X)
 voids zero = []
 voids (suc k) = None ∷ voids k
 
--- The places of a window, in its order: its leaves, and void ones behind them.
+-- The places of a window, in its order: its leaves, then void places.
 abbrev pub row : {X : Type 0} → ℕ → List X → List (Option X)
 row n leaves = map Some leaves ++ voids (n - length leaves)
 
--- Those that are there.
+-- The items that are there.
 abbrev pub found : {X : Type 0} → List (Option X) → List X
 found [] = []
 found (None ∷ os) = found os
 found (Some x ∷ os) = x ∷ found os
 
 module _ {J V M : Type 0} where
-  -- Leaves were put into the drafts of at most so many of the first `n` places, and all else is as before.
+  -- Leaves were put into the drafts of at most `more` of the first `n` places, and everything else is unchanged.
   pub record IsStagedBy (digest_of : PairOf V → List ℕ) (n more : ℕ) (old new : Node J V M) : Type 0 where
     pub kept : undrafted new ≡ undrafted old
     pub rest : drop n (places (taken new)) ≡ drop n (places (taken old))
@@ -84,7 +84,7 @@ module _ {J V M : Type 0} where
     pub row_is : slots n at.start (places node) ≡ row n (window n at node)
     pub rest : drop n (places node) ≡ voids (width - n)
 
-  -- The drafts make such a tree too, or there are none.
+  -- The drafts make such a tree too, or there are no drafts.
   abbrev pub IsDraft : (ℕ → V → Type 0) → (ℕ → V → V → V) → ℕ → ℕ → ℕ → Option Standing → Node J V M → Type 0
   IsDraft good joined setting n width None node = IsSettled node
   IsDraft good joined setting n width (Some at) node = IsMarked node × IsRow good joined setting n width at (taken node)
@@ -107,7 +107,7 @@ module _ {J V M : Type 0} where
   draft_of n None node = None
   draft_of n (Some at) node = Some (leaves_of n at (taken node))
 
-  -- A tree as it is seen.
+  -- The model of a tree.
   abbrev pub seen_of : (PairOf V → List ℕ) → ℕ → ℕ → Standing → Option Standing → Node J V M → Seen V
   seen_of digest_of setting n at draft node = record {
     tree = record { setting = setting; places = n; leaves = leaves_of n at (undrafted node); draft = draft_of n draft node };

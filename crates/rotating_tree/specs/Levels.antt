@@ -1,7 +1,7 @@
--- How many nodes stand over a place of a circle.
+-- How many nodes are over a place of a circle.
 use Rattle.std.specs.Prelude.{ℕ, suc, zero, ◌+◌, ◌-◌, ◌^◌, min}
 
--- How many of the first so many powers of two are below n.
+-- How many of the first powers of two are below n.
 abbrev pub powers_below : ℕ → ℕ → ℕ
 powers_below zero n = 0
 powers_below (suc k) n = powers_below k n + min 1 (n - 2 ^ k)

@@ -1,4 +1,4 @@
--- A full tree of places, with a draft beside what stands at each node.
+-- A full tree of places, where each node has a draft apart from its part.
 use Rattle.std.specs.Prelude.{◌≡◌, ℕ, ◌+◌, ◌<◌, ◌||◌, List, [], ◌∷◌, ◌++◌, Option, Some, None, IfSome, Bool, true, false}
 use Rattle.std.specs.declared.result.Result.{Result}
 use Rattle.std.specs.declared.result.Result.TheVariants.{Ok, Err}
@@ -12,7 +12,7 @@ use Rattle.rotating_tree.specs.declared.draft.Draft.{Draft}
 use Rattle.rotating_tree.specs.declared.draft.Draft.TheVariants.{Same, Due, New}
 use Rattle.rotating_tree.specs.declared.node.Node.{Node, Leaf, Fork'}
 
--- All that is there is so.
+-- Each item that is there has the property.
 abbrev pub AllSome : {X : Type 0} → (X → Type 0) → List (Option X) → Type 0
 AllSome P [] = Unit {0}
 AllSome P (o ∷ os) = IfSome o P × AllSome P os
@@ -54,7 +54,7 @@ module _ {J V M : Type 0} where
   IsVoid (Shared s) = ⊥
   IsVoid (Merged h) = ⊥
 
-  -- The part that a node over halves with these sheets has: only where both have one is there a merge.
+  -- The part of a node over halves with these sheets: a merge only if both have one.
   abbrev pub IsJoined : (ℕ → V → V → V) → Option (SheetOf V) → Option (SheetOf V) → Part J V M → Type 0
   IsJoined joined None None part = IsVoid part
   IsJoined joined None (Some b) part = IsShareOf b part
@@ -66,7 +66,7 @@ module _ {J V M : Type 0} where
   now_of (Leaf now draft) = part_sheet now
   now_of (Fork' p l q r now draft) = part_sheet now
 
-  -- What stands after a draft.
+  -- What is there after a draft.
   abbrev pub next_by : Part J V M → Draft J V M → Part J V M
   next_by now Same = now
   next_by now Due = now
@@ -83,13 +83,13 @@ module _ {J V M : Type 0} where
   stays (Leaf now draft) = stays_by draft
   stays (Fork' p l q r now draft) = stays_by draft
 
-  -- A draft that is still to be made.
+  -- A draft that is not made yet.
   abbrev pub due_by : Draft J V M → Bool
   due_by Same = false
   due_by Due = true
   due_by (New part) = false
 
-  -- Whether a node is to be made anew.
+  -- Whether a node must be made again.
   abbrev pub is_due : Node J V M → Bool
   is_due (Leaf now draft) = due_by draft
   is_due (Fork' p l q r now draft) = due_by draft
@@ -99,7 +99,7 @@ module _ {J V M : Type 0} where
   undrafted (Leaf now draft) = Leaf now Same
   undrafted (Fork' p l q r now draft) = Fork' p (undrafted l) q (undrafted r) now Same
 
-  -- The tree with its drafts in place of what stands.
+  -- The tree with its drafts settled.
   abbrev pub taken : Node J V M → Node J V M
   taken (Leaf now draft) = Leaf (next_by now draft) Same
   taken (Fork' p l q r now draft) = Fork' p (taken l) q (taken r) (next_by now draft) Same
@@ -114,12 +114,12 @@ module _ {J V M : Type 0} where
   size (Leaf now draft) = 1
   size (Fork' p l q r now draft) = size l + size r
 
-  -- How many nodes stand over the first place.
+  -- How many nodes are over the first place.
   abbrev pub height : Node J V M → ℕ
   height (Leaf now draft) = 0
   height (Fork' p l q r now draft) = height l + 1
 
-  -- How many nodes stand over others.
+  -- How many nodes are over two halves.
   abbrev pub forks : Node J V M → ℕ
   forks (Leaf now draft) = 0
   forks (Fork' p l q r now draft) = forks l + forks r + 1
@@ -140,12 +140,12 @@ module _ {J V M : Type 0} where
   node_loose (Leaf now draft) = part_loose now
   node_loose (Fork' p l q r now draft) = node_loose l || (node_loose r || part_loose now)
 
-  -- Both halves of each node are alike.
+  -- Both halves of each node have equal sizes.
   abbrev pub IsEven : Node J V M → Type 0
   IsEven (Leaf now draft) = Unit {0}
   IsEven (Fork' p l q r now draft) = IsEven l × IsEven r × (size l ≡ size r) × (height l ≡ height r)
 
-  -- Each node over two halves has what they ask for, and places have no merges.
+  -- Each node over two halves has their part, and places have no merges.
   abbrev pub IsSound : (ℕ → V → V → V) → Node J V M → Type 0
   IsSound joined (Leaf now draft) = IsPlain now
   IsSound joined (Fork' p l q r now draft) = IsSound joined l × IsSound joined r × IsJoined joined (now_of l) (now_of r) now
@@ -161,13 +161,13 @@ module _ {J V M : Type 0} where
   IsStagedLeaf Due = ⊥
   IsStagedLeaf (New part) = IsPlain part
 
-  -- A node stays with all below it, or is due with some place below it.
+  -- A node stays with everything below it, or is due with some changed place below it.
   abbrev pub StagedBy : Draft J V M → Type 0 → Type 0 → ℕ → Type 0
   StagedBy Same settled staged n = settled
   StagedBy Due settled staged n = staged × (0 < n)
   StagedBy (New part) settled staged n = ⊥
 
-  -- Only places have their drafts yet, and exactly the nodes over them are due.
+  -- Only places have drafts yet, and exactly the nodes over these are due.
   abbrev pub IsStaged : Node J V M → Type 0
   IsStaged (Leaf now draft) = IsStagedLeaf draft
   IsStaged (Fork' p l q r now draft) = StagedBy draft (IsSettled l × IsSettled r) (IsStaged l × IsStaged r) (drafts l + drafts r)
@@ -178,7 +178,7 @@ module _ {J V M : Type 0} where
   MarkedBy Due settled marked = marked
   MarkedBy (New part) settled marked = marked
 
-  -- No draft stands below a node that stays.
+  -- There is no draft below a node that stays.
   abbrev pub IsMarked : Node J V M → Type 0
   IsMarked (Leaf now draft) = Unit {0}
   IsMarked (Fork' p l q r now draft) = MarkedBy draft (IsSettled l × IsSettled r) (IsMarked l × IsMarked r)
@@ -201,7 +201,7 @@ module _ {J V M : Type 0} where
     draft_pins Due = []
     draft_pins (New part) = part_pins part
 
-    -- The pins of all nodes, those of their drafts among them.
+    -- The pins of all nodes, including those of their drafts.
     abbrev pub node_pins : Node J V M → List PinName
     node_pins (Leaf now draft) = part_pins now ++ draft_pins draft
     node_pins (Fork' p l q r now draft) = node_pins l ++ (node_pins r ++ (part_pins now ++ draft_pins draft))

@@ -21,8 +21,8 @@ use std::alloc::{AllocError, Global};
 use std::sync::Wait;
 use tree_laws::MergeRecipe;
 
-/// The place of the first leaf of a circle of `n` places after `gone` leaves went from `start` on. Where all leaves are
-/// fresh, it is the one of the bucket `first`.
+/// The place of the first leaf in a circle of `n` places, after `gone` leaves left from `start` on. If all leaves are
+/// fresh, it is that of the bucket number `first`.
 pub(crate) fn start_after(n: usize, start: usize, first: u64, gone: usize, fresh: usize) -> usize
     requires { (start < n) × (gone ≤ n) }
     ensures { IsTurn n start gone result fresh }
@@ -36,7 +36,7 @@ pub(crate) fn start_after(n: usize, start: usize, first: u64, gone: usize, fresh
     }
 }
 
-// The place of the leaf that is `at` steps behind the first one, which stands at `start` in a circle of `n` places.
+// The place of the leaf that is `at` steps after the first one, which is at `start` in a circle of `n` places.
 fn place_of(n: usize, start: usize, at: usize) -> usize
     requires { (start < n) × (at < n) }
     ensures { IsPlaceOf n start at result }
@@ -67,7 +67,7 @@ fn put_in_turn<J: Job>(
     put(node, width, place_of(n, start, at), sheet);
 }
 
-// Puts the leaves at these places of the window, which stay in it.
+// Puts the changed leaves at these places of the window.
 fn stage_places<J: Job>(
     node: &mut Node<J>,
     width: usize,
@@ -92,7 +92,7 @@ fn stage_places<J: Job>(
     Ok(())
 }
 
-// Puts the fresh leaves behind the `kept` first ones.
+// Puts the fresh leaves after the `kept` first ones.
 fn stage_fresh<J: Job>(
     node: &mut Node<J>,
     width: usize,
@@ -140,7 +140,7 @@ fn stage<J: Job>(
     stage_fresh(node, width, n, start, kept, fresh)
 }
 
-// The leaves staged, and the nodes over them made anew.
+// Stages the leaves, and makes the nodes over them again.
 fn redraft<J: Job, W: Wait>(
     alloc: Global,
     rt: &W,
@@ -183,8 +183,8 @@ fn redraft<J: Job, W: Wait>(
     }
 }
 
-/// The shifted leaves stand as a draft beside the leaves, which stay: those at the `changed` places of the window from
-/// `start` on, and behind the `kept` first ones the fresh ones. Out of memory, no draft stands.
+/// Makes a draft of the shifted leaves: sheets for the `changed` places of the window from `start` on, and the fresh
+/// ones after the first `kept` places. The leaves stay. Out of memory, there is no draft.
 pub(crate) fn advance<J: Job, W: Wait>(
     alloc: Global,
     rt: &W,

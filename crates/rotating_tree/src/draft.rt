@@ -1,4 +1,4 @@
-//! A draft stands beside what it may replace, so that it can be dropped without a trace.
+//! A draft is kept apart from what it replaces, so that it can be dropped without a trace.
 use crate::part::Part;
 use job_laws::Job;
 
@@ -7,8 +7,8 @@ use job_laws::Job;
 pub(crate) enum Draft<J: Job> {
     /// It stays, and so does everything below it.
     Same,
-    /// A place below it changed, and what it becomes is not made yet.
+    /// A place below it changed, and its new part is not made yet.
     Due,
-    /// It becomes this.
+    /// It becomes this part.
     New(Part<J>),
 }

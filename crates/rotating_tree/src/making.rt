@@ -10,7 +10,7 @@ use crate::part::Part;
 use job_laws::Job;
 use std::alloc::{AllocError, Global};
 
-/// A full tree of void places, 2 to the height of them.
+/// A full tree of 2^height void places.
 pub(crate) fn full<J: Job>(alloc: Global, height: u32) -> Result<Node<J>, AllocError>
     requires { height < 32 }
     ensures places { IfOk result (λ n. places n ≡ voids (2 ^ height)) }
@@ -35,7 +35,7 @@ pub(crate) fn full<J: Job>(alloc: Global, height: u32) -> Result<Node<J>, AllocE
     ))
 }
 
-/// The least height of a tree of so many places, and how many places such a tree has.
+/// The least height of a tree with at least `n` places, and the number of its places.
 pub(crate) fn height_of(n: usize) -> (u32, usize)
     requires { (0 < n) × (n ≤ 4096) }
     ensures width { result.1 ≡ 2 ^ result.0 }

@@ -7,7 +7,7 @@ use crate::part::Part;
 use job_laws::Job;
 use sheets::Sheet;
 
-/// A place with its leaf, or a node over two halves that are alike, each with the draft of it.
+/// A place with its leaf, or a node over two halves of equal size, each with its draft.
 #[derive(Drop)]
 pub(crate) enum Node<J: Job> {
     Leaf(Part<J>, Draft<J>),
@@ -46,7 +46,7 @@ pub(crate) fn stays<J: Job>(node: &Node<J>) -> bool
     }
 }
 
-/// Whether a node is to be made anew.
+/// Whether a node must be made again.
 pub(crate) fn is_due<J: Job>(node: &Node<J>) -> bool
     ensures { result ≡ is_due node.now }
 {

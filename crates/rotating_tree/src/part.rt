@@ -1,4 +1,4 @@
-//! What stands at a node. A node with one half that has nothing passes the other half's sheet up, so it has no merge.
+//! The part of a node. A node with one void half passes the other half's sheet up, so it has no merge.
 ghost use Rattle.std.specs.Prelude.{◌≡◌, List, ◌++◌, option_copied};
 ghost use Rattle.pin_table.specs.Covers.{PinName, Covered, Balanced};
 ghost use Rattle.tree_laws.specs.Pairs.{pair_digest};
@@ -10,19 +10,19 @@ use sheets::Sheet;
 use std::sync::Wait;
 use tree_laws::{Hold, MergeRecipe, let_go};
 
-/// What a node is over.
+/// What a node has over its leaves.
 #[derive(Drop)]
 pub(crate) enum Part<J: Job> {
     /// No leaf.
     Void,
-    /// One leaf or merge, which stands below, or the leaf of a place.
+    /// The sheet of a leaf, or of the only half that is not void.
     Shared(Sheet<J>),
     /// The merge of both halves.
     Merged(Hold<J>),
 }
 
 impl<J: Job> Part<J> {
-    /// The sheet of the leaves below, where there are some.
+    /// The sheet of the leaves below, if there are some.
     pub(crate) fn sheet(&self) -> Option<&Sheet<J>>
         ensures { option_copied result ≡ part_sheet self.now }
     {
@@ -34,7 +34,7 @@ impl<J: Job> Part<J> {
     }
 }
 
-/// Lets the hold of a part go, where it has one.
+/// Gives up the hold of a part, if it has one.
 pub(crate) fn let_part_go<J: Job, W: Wait>(
     rt: &W,
     memo: &Memo<MergeRecipe<J>>,

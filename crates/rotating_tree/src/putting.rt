@@ -1,4 +1,4 @@
-//! A changed place marks its path, so that each node over several of them is made once.
+//! A changed place marks its path, so that a node over several changed places is made once.
 ghost use Rattle.std.specs.Prelude.{◌≡◌, ◌++◌, ◌+◌, ◌<◌, ◌≤◌, Some, true, slice_set};
 ghost use Rattle.tree_laws.specs.Pairs.{pair_digest};
 ghost use Rattle.rotating_tree.specs.Nodes.{IsEven, IsStaged, undrafted, taken, places, size, height, drafts, node_pins, node_loose};
@@ -34,7 +34,7 @@ pub(crate) fn put<J: Job>(node: &mut Node<J>, width: usize, place: usize, sheet:
     }
 }
 
-// The same for both halves of a node, of this width each.
+// The same for both halves of a node, each of a given width.
 #[cycle(put)]
 fn put_below<J: Job>(
     left: &mut Node<J>,

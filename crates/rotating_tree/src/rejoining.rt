@@ -17,7 +17,7 @@ use std::alloc::{AllocError, Global};
 use std::sync::Wait;
 use tree_laws::MergeRecipe;
 
-/// Makes each node that is due. Where memory runs out, those that it made before stay in their drafts.
+/// Makes each node that is due. Out of memory, those that it made before stay in their drafts.
 #[cycle(rejoin)]
 pub(crate) fn rejoin<J: Job, W: Wait>(
     alloc: Global,
@@ -60,7 +60,7 @@ pub(crate) fn rejoin<J: Job, W: Wait>(
     }
 }
 
-// Makes what is due in both halves of a node that is due; the answer is what the node becomes.
+// Makes what is due in both halves of a due node, and returns the node's new part.
 #[cycle(rejoin)]
 fn fork<J: Job, W: Wait>(
     alloc: Global,

@@ -1,4 +1,4 @@
-//! A draft that is dropped gives its own pins back, and leaves what stands.
+//! A dropped draft gives its own pins back, and leaves the rest.
 ghost use Rattle.std.specs.Prelude.{◌≡◌, ◌++◌, List};
 ghost use Rattle.pin_table.specs.Covers.{PinName, Covered, Balanced};
 ghost use Rattle.tree_laws.specs.Pairs.{pair_digest};
@@ -13,7 +13,8 @@ use pin_table::{Caller, Memo};
 use std::sync::Wait;
 use tree_laws::MergeRecipe;
 
-/// Drops the draft of each node, and lets go what it has. It takes no memory, and walks the nodes that do not stay alone.
+/// Drops the draft of each node, and gives up what it has. It takes no memory, and walks only the nodes that do not
+/// stay.
 #[cycle(revert)]
 pub(crate) fn revert<J: Job, W: Wait>(
     rt: &W,
@@ -59,7 +60,7 @@ fn revert_fork<J: Job, W: Wait>(
     drop_draft(rt, memo, caller, draft);
 }
 
-// One node stays. What it was to become is let go.
+// One node stays, and its draft is given up.
 fn drop_draft<J: Job, W: Wait>(
     rt: &W,
     memo: &Memo<MergeRecipe<J>>,

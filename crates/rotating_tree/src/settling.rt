@@ -1,4 +1,4 @@
-//! A draft that is settled takes the place of what stands, whose pins go back.
+//! A settled draft replaces the nodes before it, whose pins are given up.
 ghost use Rattle.std.specs.Prelude.{◌≡◌, ◌++◌};
 ghost use Rattle.pin_table.specs.Covers.{Covered, Balanced};
 ghost use Rattle.tree_laws.specs.Pairs.{pair_digest};
@@ -13,8 +13,8 @@ use pin_table::{Caller, Memo};
 use std::sync::Wait;
 use tree_laws::MergeRecipe;
 
-/// Makes the draft of each node the node, and lets go what it replaces. It takes no memory, and walks the nodes that do not
-/// stay alone.
+/// Makes the draft of each node the node, and gives up what it replaces. It takes no memory, and walks only the nodes
+/// that do not stay.
 #[cycle(settle)]
 pub(crate) fn settle<J: Job, W: Wait>(
     rt: &W,
@@ -64,7 +64,7 @@ fn settle_fork<J: Job, W: Wait>(
     turn(rt, memo, caller, now, draft);
 }
 
-// One node becomes its draft. What it was is let go.
+// One node becomes its draft, and what it was is given up.
 fn turn<J: Job, W: Wait>(
     rt: &W,
     memo: &Memo<MergeRecipe<J>>,

@@ -1,7 +1,7 @@
-//! A window goes round its circle, and the tree's places do not.
+//! A window moves round its circle, while the tree's places stay.
 
-/// Where the leaves of a window stand: the number of the first one's bucket, its place in the circle, and how many there
-/// are.
+/// The places of a window's leaves: the number of the first leaf's bucket, its place in the circle, and how many leaves
+/// there are.
 #[derive(Clone, Copy, Drop)]
 pub(crate) struct Standing {
     pub(crate) first: u64,

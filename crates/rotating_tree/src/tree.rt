@@ -1,4 +1,4 @@
-//! The tree of a circle: which place of it is the window's first moves on, and the leaves stay where they are.
+//! The tree of a circle: the window's first place moves on, and the leaves stay at their places.
 use crate::circle::{advance, start_after};
 use crate::making::{full, height_of};
 use crate::node::{Node, now};
@@ -19,7 +19,7 @@ use tree_laws::{MergeRecipe, Tree};
 #[derive(Drop)]
 pub struct RotatingTree<J: Job> {
     setting: u32,
-    // The places of the circle, which are the first ones of the tree's.
+    // How many places the circle has, which are the first places of the tree.
     n: usize,
     width: usize,
     at: Standing,
@@ -187,7 +187,7 @@ impl<J: Swaps> Tree<J> for RotatingTree<J> {
         _run: u64,
         _m: &mut J::Meter,
     ) -> Result<(), AllocError> {
-        // That it has few pins is known of its parts alone.
+        // Reading the field gives the prover that the tree has few pins.
         let _ = &self.root;
         Ok(())
     }

@@ -1,4 +1,4 @@
--- What a lane counts where it brings one leaf after the other.
+-- What a lane counts when it brings one leaf after the other.
 use Rattle.std.proofs.Common.{◌≡◌, ℕ, ◌+◌, ◌<◌, ◌≤◌, Bool, true, false, cond, ◌||◌, nat_lt, List, [], ◌∷◌, ◌++◌, length, take, refl, ap, sym, subst, ◌∙◌, arith}
 use Rattle.std.specs.Prelude.{slice_index_or}
 use Rattle.std.proofs.lemmas.Bool.Decides.{nat_tests}
@@ -30,7 +30,7 @@ held-now x now new comes u = by (same_text u x) (comes.used u) (comes.came u)
     by true used came = let n : 0 < used_of u new + came_of u new = omega (arith, came) in held-is u new n
     by false used came = let n : used_of u new + came_of u new ≡ used_of u now + came_of u now = omega (arith, used, came) in ap (λ (m : ℕ). nat_lt 0 m) n
 
--- What is left to bring weighs less by the text that came, if that was not held.
+-- The leaves that are left to bring weigh less by the text that came, if that was not held.
 pub weight-came : (w : Leaf → ℕ) (x : InputView) (rest : List InputView) (now new : List TextView) → Comes x.text now new → new_weight w now (x ∷ rest) ≡ cond (is_held now x.text) 0 (w x.text) + new_weight w new rest
 weight-came w x rest now new comes = by (is_held now x.text) refl
   where
@@ -53,7 +53,7 @@ weight-came w x rest now new comes = by (is_held now x.text) refl
         let c = weight-alike w (is_held new) (with_text x.text (is_held now)) (texts_of rest) (held-now x.text now new comes) in
         a ∙ ap (λ (n : ℕ). w x.text + n) (sym c)
 
--- What the text costs that is tried, if it is not held, is among what is left.
+-- The cost of the next text, if it is not held, is among that of the leaves that are left.
 pub weight-first : (w : Leaf → ℕ) (x : InputView) (rest : List InputView) (now : List TextView) → cond (is_held now x.text) 0 (w x.text) ≤ new_weight w now (x ∷ rest)
 weight-first w x rest now = by (is_held now x.text) refl
   where
@@ -63,7 +63,7 @@ weight-first w x rest now = by (is_held now x.text) refl
         let a : new_weight w now (x ∷ rest) ≡ w x.text + weight w (with_text x.text (is_held now)) (texts_of rest) = weight-new w (is_held now) x.text (texts_of rest) is in
         omega (arith, a)
 
--- A leaf that is held counts nothing, another its mapping at the most.
+-- A held text counts nothing, any other at most its mapping.
 pub one-brought : (maps joins : ℕ) (x : Leaf) (now : List TextView) (a b : Counts) → (IsHeld x now → b ≡ a) → RoseBy maps 0 joins a b → RoseBy (cond (is_held now x) 0 maps) 0 (cond (is_held now x) 0 joins) a b
 one-brought maps joins x now a b none rose = by (is_held now x) refl
   where
@@ -78,7 +78,7 @@ times-more t inputs i x lt read =
     ∙ ap (times t) (map_push (λ (j : InputView). j.text) (take i inputs) x)
     ∙ sum_by_push {X = Leaf} (λ u. cond {A = ℕ} (same_text t u) 1 0) (texts_of (take i inputs)) x.text
 
--- Of the inputs before it and of it there are no more of its text than of all.
+-- The inputs up to this one have its text no more often than all inputs.
 pub times-within : (inputs : List InputView) (i : ℕ) (x : InputView) → i < length inputs → x ≡ slice_index_or inputs i x → times x.text (texts_of (take i inputs)) < times x.text (texts_of inputs)
 times-within inputs i x lt read =
     let a = times-more x.text inputs i x lt read in

@@ -13,7 +13,7 @@ same-or-not zero (suc k) = inr (λ (e : zero ≡ suc k). omega (arith, e))
 same-or-not (suc i) zero = inr (λ (e : suc i ≡ zero). omega (arith, e))
 same-or-not (suc i) (suc k) = ⊎_elim (λ (e : i ≡ k). inl (ap suc e)) (λ (e : i ≡ k → ⊥). inr (λ (f : suc i ≡ suc k). e (omega (arith, f)))) (same-or-not i k)
 
--- One item became another; of all others holds what holds of items that stay.
+-- One item became another; the others stay.
 pub one-dealt : {A : Type 0} (P : ℕ → A → A → Type 0) (i : ℕ) (old : List A) (x y : A) → x ≡ slice_index_or old i x → i < length old → P i x y → ((k : ℕ) (a : A) → (i ≡ k → ⊥) → P k a a) → EachPair P old (slice_set old i y)
 one-dealt {A} P i old x y read lt px stays = record { count = length-set old i y; each = λ k d e kl. ⊎_elim (λ (eq : i ≡ k). there k d e eq) (λ (apart : i ≡ k → ⊥). other k d e apart kl) (same-or-not i k) }
   where

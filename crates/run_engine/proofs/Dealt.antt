@@ -43,7 +43,7 @@ goes-more k inputs i x lt read =
     ap (goes_to k) (take_more inputs i x lt ∙ ap (λ (y : InputView). take i inputs ++ y ∷ []) (sym read))
     ∙ filter-append (λ (j : InputView). lane_at (input_digest j.text) 16 == k) (take i inputs) (x ∷ [])
 
--- A text is among leaves where it is there at least once.
+-- A text is among leaves if it is there at least once.
 pub among-times : (leaves : List Leaf) (t : Leaf) → is_among leaves t ≡ nat_lt 0 (times t leaves)
 among-times [] t = refl
 among-times (u ∷ leaves) t =
@@ -71,13 +71,13 @@ module _ (parts setting : ℕ) (leaves : List Leaf) (k : ℕ) (l : LaneView) (ho
       let n : used_of t l.texts + came_of t l.texts ≡ times t leaves = omega (arith, u, c, b) in
       ap (λ (m : ℕ). nat_lt 0 m) n ∙ sym (among-times leaves t)
 
-  -- What a lane's own texts cost that it does not hold.
+  -- The cost of those of a lane's own texts that it does not hold.
   pub lane-weight : (w : Leaf → ℕ) (inputs : List InputView) → new_weight w l.texts (goes_to k inputs) ≡ weight w (is_among leaves) (lane_texts leaf_lane k (texts_of inputs))
   lane-weight w inputs =
       ap (weight w (is_held l.texts)) (goes-texts k inputs)
       ∙ weight-on w (is_held l.texts) (is_among leaves) (lane_texts leaf_lane k (texts_of inputs)) (λ u h. lane-holds u (lane-own leaf_lane k (texts_of inputs) u h))
 
-  -- It may let those go that belong to it.
+  -- It may let those leave that belong to it.
   pub lane-may-leave : (gone : List Leaf) (own : List InputView) → ((t : Leaf) → times t (texts_of own) ≡ of_lane k t (times t gone)) → ((t : Leaf) → times t gone ≤ times t leaves) → MayLeave l own
   lane-may-leave gone own went less t =
       let u = holds.used t in
@@ -90,7 +90,7 @@ module _ (parts setting : ℕ) (leaves : List Leaf) (k : ℕ) (l : LaneView) (ho
       within true h = h
       within false h = omega arith
 
--- A lane that brought and noted what belongs to it, and settled, holds the lane's texts of the leaves of now.
+-- A lane that brought and noted what belongs to it, and settled, holds the lane's texts of the present leaves.
 pub lane-led : (k : ℕ) (t : Leaf) (leaves fresh gone now : List Leaf) (used came went left_used : ℕ) → used ≡ of_lane k t (times t leaves) → came ≡ of_lane k t (times t fresh) → went ≡ of_lane k t (times t gone) → times t now + times t gone ≡ times t leaves + times t fresh → left_used + went ≡ used + came → left_used ≡ of_lane k t (times t now)
 lane-led k t leaves fresh gone now used came went left_used = by (leaf_lane t == k)
   where

@@ -1,4 +1,4 @@
--- That an engine between runs is ready for both phases, and what it needs of the window.
+-- An engine between runs is ready for both phases; and what it needs of the window.
 use Rattle.std.proofs.Common.{◌≡◌, ℕ, ◌+◌, ◌-◌, ◌<◌, ◌≤◌, Bool, cond, List, [], ◌∷◌, length, map, drop, All, refl, ap, sym, subst, ◌∙◌, arith}
 use Rattle.std.specs.Prelude.{slice_index_or}
 use Rattle.std.proofs.lemmas.List.{length-map, get_or-map}
@@ -69,7 +69,7 @@ module _ {V : Type 0} (m : Meaning V) (setting parts : ℕ) (w : WindowView) (fi
     leave = left-within balances w.window.kind w.window.places first (fresh_leaves w) leaves (shift_of w) since.fits;
   }
 
-  -- What is there now, with what left, is what was there, with what came.
+  -- The present leaves, with those that left, are the old ones, with those that came.
   pub since-balance : ShiftBalances → (t : Leaf) → times t w.window.leaves + times t (left [] (shift_of w) leaves) ≡ times t leaves + times t (fresh_leaves w)
   since-balance balances t =
       ap (λ (l : List Leaf). times t l + times t (left [] (shift_of w) leaves)) since.leads

@@ -1,4 +1,4 @@
--- Which lists a shift fits that a window gives, and what it brings and takes away of them.
+-- Which lists the shift of a window fits, and what it brings and takes away.
 use Rattle.std.proofs.Common.{◌≡◌, ℕ, zero, suc, ◌+◌, ◌-◌, ◌<◌, ◌≤◌, Bool, true, false, cond, ◌||◌, List, [], ◌∷◌, ◌++◌, length, map, take, drop, All, replicate, refl, ap, sym, subst, ◌∙◌, arith, length-append, length-take, length-drop, length-set}
 use Rattle.std.specs.Prelude.{slice_set, slice_index_or}
 use Rattle.std.proofs.lemmas.List.{length-replicate}
@@ -16,7 +16,7 @@ use Rattle.map_tasks.proofs.Totals.{same-not}
 use Rattle.run_engine.specs.NewTexts.{times, is_among}
 use Rattle.run_engine.specs.Inputs.{FitsOld, FitsNew, FitsList}
 
--- A slide of any kind is one of its list.
+-- A slide of any kind fits its list.
 slide-of : (kind : Kind) (most old count news : ℕ) (first gone : ℕ) (places : List ℕ) (fresh : ℕ) → FitsShift kind most old count news (Slide first gone places fresh) → IsSlideOf old count news first gone places fresh
 slide-of Growing most old count news first gone places fresh fits = fits.0
 slide-of Buckets most old count news first gone places fresh fits = fits
@@ -67,7 +67,7 @@ module _ {X : Type 0} where
       let d = length-drop (first + gone) old in
       omega (arith, a, b, c, d, within)
 
-  -- What a window's shift brings stands in the list after it.
+  -- What a window's shift brings is in the list after it.
   pub fits-new : (kind : Kind) (most old : ℕ) (shift : Shift) (news olds now : List X) → now ≡ shifted shift news olds → FitsShift kind most old (length olds) (length news) shift → FitsNew shift (length now)
   fits-new kind most old (Slide first gone places fresh) news olds now leads fits =
       let s = slide-of kind most old (length olds) (length news) first gone places fresh fits in

@@ -28,6 +28,6 @@ held-at {J} {V} {M} inputs lanes n i k x s h lt read within at own =
     let place : slice_index_or (map (λ (s : LaneSeat J V M). s.lane) lanes) k s.lane ≡ s.lane = get_or-map (λ (s : LaneSeat J V M). s.lane) lanes k s s.lane within ∙ ap (λ (s : LaneSeat J V M). s.lane) (sym at) in
     subst (λ (l : LaneView). IsHeld x.text l.texts × All (IsMappedSo x.parts x.setting) l.texts) place (each k s.lane (omega (arith, within, c)) own)
 
--- It has so many parts.
+-- It has this number of parts.
 pub parts-at : (inputs : List InputView) (lanes : List LaneView) (n i : ℕ) (x : InputView) → HoldEach n inputs lanes → i < length inputs → x ≡ slice_index_or inputs i x → n ≤ x.parts
 parts-at inputs lanes n i x h lt read = subst (λ (y : InputView). n ≤ y.parts) (sym read) (h.within i x lt)

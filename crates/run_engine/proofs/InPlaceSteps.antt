@@ -53,7 +53,7 @@ module _ {A : Type 0} where
   pairs-more P Q xs ys go p = record { count = p.count; each = λ k d e lt. go k (slice_index_or xs k d) (slice_index_or ys k e) (p.each k d e lt) }
 
 module _ {A B : Type 0} (f : A → B) where
-  -- What is made of each item stands in its place.
+  -- The results for all items, each at its place.
   pub pairs-mapped : (P : ℕ → A → A → Type 0) (Q : ℕ → B → B → Type 0) (xs ys : List A) → ((k : ℕ) (x y : A) → P k x y → Q k (f x) (f y)) → EachPair P xs ys → EachPair Q (map f xs) (map f ys)
   pairs-mapped P Q xs ys go p =
       let n = p.count in
@@ -83,7 +83,7 @@ module _ {A B : Type 0} (f : A → B) where
       item [] k lt = absurd (omega (arith, lt))
       item (z ∷ zs) k lt = z
 
--- Where it ended early, what holds of changed and unchanged items holds of all.
+-- After an early end, what holds of changed and of unchanged items holds of all.
 pub partly-ended : {A : Type 0} (P Q : ℕ → A → A → Type 0) (i : ℕ) (old now : List A) (x y : A) → Partly P i old now → i < length old → x ≡ slice_index_or now i x → ((k : ℕ) (a b : A) → P k a b → Q k a b) → ((k : ℕ) (a : A) → Q k a a) → Q i x y → EachPair Q old (slice_set now i y)
 partly-ended {A} P Q i old now x y p lt read weaker same qx =
     let q : Partly Q (i + 1) old (slice_set now i y) = partly-more Q i old now x y (record { count = p.count; done = λ k d e kl within. weaker k (slice_index_or old k d) (slice_index_or now k e) (p.done k d e kl within); ahead = p.ahead }) lt read qx in
@@ -97,12 +97,12 @@ partly-ended {A} P Q i old now x y p lt read weaker same qx =
         side zero (suc n) = inl (omega arith)
         side (suc k) (suc n) = ⊎_elim (λ (l : k < n). inl (omega (arith, l))) (λ (r : n ≤ k). inr (omega (arith, r))) (side k n)
 
--- The item at a place, whatever stands for none.
+-- The item at a place, whatever the default is.
 pub at-place : {A : Type 0} (xs : List A) (k : ℕ) → k < length xs → (x : A) × ((d : A) → slice_index_or xs k d ≡ x)
 at-place [] k lt = absurd (omega (arith, lt))
 at-place (x ∷ xs) zero lt = (x, λ d. refl)
 at-place (x ∷ xs) (suc k) lt = at-place xs k (omega (arith, lt))
 
--- What is made of the item at a place.
+-- The result for the item at a place.
 pub mapped-place : {A B : Type 0} (f : A → B) (xs : List A) (k : ℕ) (x : A) → k < length xs → ((d : A) → slice_index_or xs k d ≡ x) → (e : B) → slice_index_or (map f xs) k e ≡ f x
 mapped-place f xs k x lt is e = get_or-map f xs k x e lt ∙ ap f (is x)

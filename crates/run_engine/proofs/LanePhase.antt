@@ -1,4 +1,4 @@
--- What the first phase makes of all lanes.
+-- The first phase, for all lanes.
 use Rattle.std.proofs.Common.{◌≡◌, ℕ, ◌<◌, ◌≤◌, Bool, true, false, List, ◌++◌, length, All, refl, ap, sym, subst, ◌∙◌, arith}
 use Rattle.std.specs.Prelude.{slice_index_or}
 use Rattle.std.proofs.lemmas.List.{get_or_default}
@@ -32,7 +32,7 @@ module _ {J V M : Type 0} (m : Meaning V) (setting parts : ℕ) (counts : M → 
     (seats : EachAt (IsLaneSeat parts setting locks leaves) old)
     (dealt : EachPair (λ k s t. (t.lane ≡ s.lane) × IsDealtLane fresh gone k s.fresh.items s.gone.items t.fresh.items t.gone.items) old mid)
     (worked : EachPair (λ k s t. (d e : M) → IsWorkedLane m setting parts s.fresh.items s.gone.items s.lane t.lane (counts (slice_index_or before k d)) (counts (slice_index_or now k e)) failed) mid new) where
-  -- Of one lane: its task, from the lane of before on.
+  -- One lane: its task, from the lane before on.
   one : (k : ℕ) (d e : LaneSeat J V M) (x y : M) → k < length old → IsWorkedLane m setting parts (slice_index_or mid k d).fresh.items (slice_index_or mid k d).gone.items (slice_index_or old k d).lane (slice_index_or new k e).lane (counts (slice_index_or before k x)) (counts (slice_index_or now k y)) failed
   one k d e x y lt =
       let n = dealt.count in
@@ -87,7 +87,7 @@ all-ready m setting parts locks leaves gone fresh old mid seats dealt within inp
     lane-ready m setting parts locks leaves gone fresh k (slice_index_or old k d).lane (slice_index_or mid k d).lane (slice_index_or old k d).fresh.items (slice_index_or old k d).gone.items (slice_index_or mid k d).fresh.items (slice_index_or mid k d).gone.items
     s.of s.holds within inputs less s.no_fresh s.no_gone p.0 p.1
 
--- Lanes that were not worked.
+-- Lanes whose task was not done.
 pub all-idle : {J V M : Type 0} (m : Meaning V) (setting parts : ℕ) (counts : M → Counts) (locks : List TableId) (lanes : List (LaneSeat J V M)) (before : List M) → All (λ s. IsReadyLane m setting parts locks s.lane s.fresh.items s.gone.items) lanes → length lanes ≤ length before
     → EachPair (λ k s t. (d e : M) → IsWorkedLane m setting parts s.fresh.items s.gone.items s.lane t.lane (counts (slice_index_or before k d)) (counts (slice_index_or before k e)) true) lanes lanes
 all-idle {J} {V} {M} m setting parts counts locks lanes before ready meters = record { count = refl; each = λ k d e lt x y. at k d e lt x y }
@@ -117,7 +117,7 @@ module _ {J V M : Type 0} (m : Meaning V) (setting parts : ℕ) (counts : M → 
       each = λ k d f lt e g. lane-failed m setting parts (slice_index_or lanes k d).fresh.items (slice_index_or lanes k d).gone.items (slice_index_or lanes k d).lane (slice_index_or now k f).lane (counts (slice_index_or before k e)) (counts (slice_index_or after k g)) (slice_index_or now k f).failed (each k d f e g lt);
     }
 
-  -- None was worked.
+  -- None was done.
   pub lanes-unworked : (locks : List TableId) → now ≡ lanes → after ≡ before → All (λ s. IsReadyLane m setting parts locks s.lane s.fresh.items s.gone.items) lanes → length lanes ≤ length before → EachPair (λ k s t. (d e : M) → IsWorkedLane m setting parts s.fresh.items s.gone.items s.lane t.lane (counts (slice_index_or before k d)) (counts (slice_index_or after k e)) true) lanes now
   lanes-unworked locks same still ready meters =
       subst (λ (l : List (LaneSeat J V M)). EachPair (λ k s t. (d e : M) → IsWorkedLane m setting parts s.fresh.items s.gone.items s.lane t.lane (counts (slice_index_or before k d)) (counts (slice_index_or after k e)) true) lanes l) (sym same)

@@ -1,4 +1,4 @@
--- What a run makes of the trees: their tables are those of the window's leaves.
+-- After a run the trees' tables are those of the window's leaves.
 use Rattle.std.proofs.Common.{◌≡◌, ℕ, ◌+◌, List, [], ◌∷◌, ◌++◌, length, map, take, drop, refl, ap, sym, ◌∙◌}
 use Rattle.std.specs.Prelude.{slice_set}
 use Rattle.std.proofs.lemmas.List.{map-append, map-set, take-map, drop-map}
@@ -18,7 +18,7 @@ module _ {X Y : Type 0} (f : X → Y) where
   map-put (p ∷ ps) [] xs = refl
   map-put (p ∷ ps) (y ∷ ys) xs = map-put ps ys (slice_set xs p y) ∙ ap (put_at ps (map f ys)) (map-set f xs p y)
 
-  -- A shift does the same to what is made of each item.
+  -- A shift of a list of results is the list of results of the shifted list.
   pub map-shifted : (shift : Shift) (news old : List X) → map f (shifted shift news old) ≡ shifted shift (map f news) (map f old)
   map-shifted (Slide first gone places fresh) news old =
       map-append f (put_at places news (drop gone old)) (drop (length places) news)
@@ -30,7 +30,7 @@ module _ {X Y : Type 0} (f : X → Y) where
       ∙ ap (λ (l : List Y). (take first (map f old) ++ map f news) ++ l) (sym (drop-map f (first + gone) old))
 
 module _ {V : Type 0} (m : Meaning V) (setting parts places first : ℕ) (leaves : List Leaf) (part : ℕ) where
-  -- A tree over the leaves that took a shift with the sheets of these leaves, and settled, stands over the shifted leaves.
+  -- A tree over the leaves that took a shift with the sheets of these leaves, and settled, is over the shifted leaves.
   pub tree-leads : (shift : Shift) (fresh : List Leaf) (shaped : Shape → Shift → Shape) (news : List (SheetOf V)) → tables_of news ≡ map (part_table m parts part) fresh
       → (old new : TreeView V) → IsTreeOf m setting parts places first leaves part old → IsDrafted shaped shift news old new → IsTreeOf m setting parts places (first_after shift first) (shifted shift fresh leaves) part (settled new)
   tree-leads shift fresh shaped news tables_are old new is drafted =

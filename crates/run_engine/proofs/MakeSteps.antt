@@ -1,4 +1,4 @@
--- The lanes and parts of a new engine, by the callers that they are made of.
+-- The lanes and parts of a new engine, by the callers that they are made from.
 use Rattle.std.proofs.Common.{◌≡◌, ℕ, ◌<◌, ◌≤◌, List, [], length, map, All, refl, ap, sym, subst, ◌∙◌, arith}
 use Rattle.std.specs.Prelude.{slice_index_or}
 use Rattle.std.proofs.lemmas.List.{length-map, get_or-map}

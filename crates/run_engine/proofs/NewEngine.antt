@@ -1,4 +1,4 @@
--- A new engine, by what it was made of.
+-- A new engine, by its fields.
 use Rattle.std.proofs.Common.{◌≡◌, ℕ, ◌+◌, List, [], ◌∷◌, ◌++◌, length, map, All, refl, ap, sym, subst, ◌∙◌, arith}
 use Rattle.std.specs.Prelude.{Some}
 use Rattle.std.proofs.lemmas.List.{length_push, length-map}
@@ -65,7 +65,7 @@ module _ {J T V M : Type 0} (j : Jobs.Ghosts J V M) (view : T → TreeView V) (p
   merge-ends : Parted merge_memo.locks settings.parts settings.keep merge_rest merge_sweep
   merge-ends = parted n settings.shards settings.parts settings.keep merge_memo merge_callers merge_rest merge_sweep merge_starts merge_is merge_keep
 
-  -- All stands over no leaves.
+  -- Everything is over no leaves.
   pub new-whole : IsWhole (meaning_of j job) view pins most (j.setting job) 0 settings (texts_of leaves) leaf_memo.locks merge_memo.locks lanes parts leaf_sweep merge_sweep
   new-whole = subst (λ (l : List InputView). IsWhole (meaning_of j job) view pins most (j.setting job) 0 settings (texts_of l) leaf_memo.locks merge_memo.locks lanes parts leaf_sweep merge_sweep) (sym none) (record {
     settings_are = within;

@@ -1,4 +1,4 @@
--- What holds of an engine that is made of new memos.
+-- What holds of an engine that is made from new memos.
 use Rattle.std.proofs.Common.{◌≡◌, ℕ, zero, suc, ◌+◌, ◌<◌, ◌==◌, cond, Bool, true, false, List, [], ◌∷◌, ◌++◌, length, refl, ap, sym, ◌∙◌, arith}
 use Rattle.std.specs.Prelude.{slice_index_or}
 use Rattle.std.proofs.lemmas.Option.{slice_get-get_or}
@@ -24,7 +24,7 @@ knows-nothing (x ∷ locks) number (suc s) = knows-nothing locks number s
 pub holds-nothing : (locks : List TableId) (number s id : ℕ) → held_at s id (newcomer locks number) ≡ 0
 holds-nothing locks number s id = ap (λ (k : ShardKnown). held number id k.mine) (knows-nothing locks number s)
 
--- A lane that holds no text is one over no leaves.
+-- A lane that holds no text is over no leaves.
 pub lane-bare : (parts setting : ℕ) (locks : List TableId) (k number : ℕ) → IsLaneOf parts setting [] k (bare_lane (newcomer locks number))
 lane-bare parts setting locks k number = record {
   used = λ t. none (lane_at (input_digest t) 16 == k);

@@ -1,4 +1,4 @@
--- What the second phase makes of all parts.
+-- The second phase, for all parts.
 use Rattle.std.proofs.Common.{◌≡◌, ℕ, ◌<◌, ◌≤◌, Bool, true, false, List, [], ◌++◌, length, map, All, refl, ap, sym, subst, ◌∙◌, arith}
 use Rattle.std.specs.Prelude.{slice_index_or}
 use Rattle.std.proofs.lemmas.List.{length-map, get_or_default}
@@ -33,7 +33,7 @@ module _ {J T V M : Type 0} (job : Jobs.Ghosts J V M) (setting parts : ℕ) (vie
   news-are : (p : ℕ) (d : PartSeat J T V M) → p < length old → (slice_index_or old p d).fresh.items ≡ [] → (slice_index_or mid p d).fresh.items ≡ map (λ i. sheet_for job i p) inputs
   news-are p d lt none = (handed.each p d d lt).2 ∙ ap (λ (l : List (SheetOf V)). l ++ map (λ i. sheet_for job i p) inputs) none
 
-  -- Each part may be worked.
+  -- Each part may be done.
   pub parts-ready : (kind : Kind) (locks : List TableId) → All (IsPartReady view pins setting kind locks shift (length inputs)) old → All (λ s. IsReadyPart view pins kind setting locks shift s.tree s.caller s.fresh.items) mid
   parts-ready kind locks ready p d lt =
       let n = handed.count in
@@ -101,7 +101,7 @@ module _ {J T V M : Type 0} (job : Jobs.Ghosts J V M) (setting parts : ℕ) (vie
           };
     }
 
--- Parts that were not worked.
+-- Parts whose task was not done.
 pub parts-idle : {J T V M : Type 0} (view : T → TreeView V) (pins : T → List PinName) (bound : T → Shift → ℕ) (tight : T → Shift → List (List (List ℕ × V)) → ℕ) (shaped : Shape → Shift → Shape) (kind : Kind) (setting : ℕ) (locks : List TableId) (shift : Shift) (counts : M → Counts) (seats : List (PartSeat J T V M)) (before : List M)
     → All (λ s. IsReadyPart view pins kind setting locks shift s.tree s.caller s.fresh.items) seats → length seats ≤ length before
     → EachPair (λ p s t. (d e : M) → IsAdvancedPart view pins bound tight shaped shift s.fresh.items s.tree s.caller t.tree t.caller (counts (slice_index_or before p d)) (counts (slice_index_or before p e)) true) seats seats
@@ -132,14 +132,14 @@ module _ {J T V M : Type 0} (view : T → TreeView V) (pins : T → List PinName
       each = λ p d f lt e g. part-failed view pins bound tight shaped shift (slice_index_or seats p d).fresh.items (slice_index_or seats p d).tree (slice_index_or now p f).tree (slice_index_or seats p d).caller (slice_index_or now p f).caller (counts (slice_index_or before p e)) (counts (slice_index_or after p g)) (slice_index_or now p f).failed (each p d f e g lt);
     }
 
-  -- None was worked.
+  -- None was done.
   pub parts-unworked : (kind : Kind) (setting : ℕ) (locks : List TableId) → now ≡ seats → after ≡ before → All (λ s. IsReadyPart view pins kind setting locks shift s.tree s.caller s.fresh.items) seats → length seats ≤ length before → EachPair (λ p s t. (d e : M) → IsAdvancedPart view pins bound tight shaped shift s.fresh.items s.tree s.caller t.tree t.caller (counts (slice_index_or before p d)) (counts (slice_index_or after p e)) true) seats now
   parts-unworked kind setting locks same still ready meters =
       subst (λ (l : List (PartSeat J T V M)). EachPair (λ p s t. (d e : M) → IsAdvancedPart view pins bound tight shaped shift s.fresh.items s.tree s.caller t.tree t.caller (counts (slice_index_or before p d)) (counts (slice_index_or after p e)) true) seats l) (sym same)
       (subst (λ (a : List M). EachPair (λ p s t. (d e : M) → IsAdvancedPart view pins bound tight shaped shift s.fresh.items s.tree s.caller t.tree t.caller (counts (slice_index_or before p d)) (counts (slice_index_or a p e)) true) seats seats) (sym still)
       (parts-idle view pins bound tight shaped kind setting locks shift counts seats before ready meters))
 
--- Parts that were handed some sheets at the most were tried.
+-- Parts that at most got some sheets count as tried.
 pub parts-handed : {J T V M : Type 0} (view : T → TreeView V) (pins : T → List PinName) (setting : ℕ) (kind : Kind) (locks : List TableId) (shift : Shift) (news : ℕ) (old mid : List (PartSeat J T V M)) → All (IsPartReady view pins setting kind locks shift news) old → EachPair (λ p s t. (t.tree ≡ s.tree) × (t.caller ≡ s.caller) × Unit {0}) old mid
     → EachPair (λ p s t. IsTriedPart view pins s.tree s.caller t.tree t.caller) old mid
 parts-handed {J} {T} {V} {M} view pins setting kind locks shift news old mid ready handed = record { count = handed.count; each = λ p d e lt. at p d e lt }

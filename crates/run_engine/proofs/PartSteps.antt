@@ -1,4 +1,4 @@
--- What the second phase makes of each part.
+-- The second phase, for each part.
 use Rattle.std.proofs.Common.{◌≡◌, ℕ, ◌*◌, Bool, true, false, true≢false, List, [], ◌∷◌, map, All, refl, ap, sym, subst, ◌∙◌, arith}
 use Rattle.std.specs.Prelude.{Option, None}
 use Rattle.std.proofs.lemmas.List.Elements.{All-map, All-weaker, All-head, All-tail}
@@ -25,11 +25,11 @@ use Rattle.run_engine.specs.PartTasks.{IsReadyPart, IsAdvancedPart}
 use Rattle.run_engine.specs.Engines.{part_table}
 use Rattle.run_engine.specs.Phases.{IsTriedPart}
 
--- A tree without a draft is as it would be reverted.
+-- Reverting a tree without a draft changes nothing.
 pub undrafted : {V : Type 0} (v : TreeView V) → v.draft ≡ None → reverted v ≡ v
 undrafted {V} v none = sym (ap (λ (d : Option (Leaves V)). record v { draft = d }) none)
 
--- A tree that took a draft is reverted to what it was.
+-- Reverting a tree with a draft gives what it was before.
 pub drafted-kept : {V : Type 0} (shaped : Shape → Shift → Shape) (shift : Shift) (news : List (SheetOf V)) (old new : TreeView V) → old.draft ≡ None → IsDrafted shaped shift news old new → reverted new ≡ old
 drafted-kept shaped shift news old new none drafted = ap reverted drafted.is ∙ undrafted old none
 
@@ -47,7 +47,7 @@ module _ {J V M : Type 0} (job : Jobs.Ghosts J V M) (setting parts part : ℕ) w
   sheets-settings inputs at is mapped = All-map (λ (s : SheetOf V). s.setting ≡ at) (λ i. sheet_for job i part) inputs (All-weaker (λ (j : InputView). (j.parts ≡ parts) × (j.setting ≡ setting)) (λ (j : InputView). (sheet_for job j part).setting ≡ at) (λ j h. h.1 ∙ sym is) inputs mapped)
 
 module _ {V T : Type 0} (view : T → TreeView V) (pins : T → List PinName) (bound : T → Shift → ℕ) (tight : T → Shift → List (List (List ℕ × V)) → ℕ) (shaped : Shape → Shift → Shape) where
-  -- A part that was worked counted by the tables of its leaves.
+  -- A part that was done counted by the tables of its leaves.
   pub part-counted : (shift : Shift) (news : List (SheetOf V)) (tables : List (List (List ℕ × V))) (tree tree_now : T) (caller caller_now : CallerView) (a b : Counts) (failed : Bool) → tables_of news ≡ tables → IsAdvancedPart view pins bound tight shaped shift news tree caller tree_now caller_now a b failed
       → RoseBy 0 (bound tree shift) (bound tree shift * distinct_keys (shifted shift tables (view tree).leaves.tables)) a b
   part-counted shift news tables tree tree_now caller caller_now a b failed is w = subst (λ (ts : List (List (List ℕ × V))). RoseBy 0 (bound tree shift) (bound tree shift * distinct_keys (shifted shift ts (view tree).leaves.tables)) a b) is w.counted
@@ -56,7 +56,7 @@ module _ {V T : Type 0} (view : T → TreeView V) (pins : T → List PinName) (b
       → (view tree).leaves.loose ≡ false → (Met caller caller_now → ⊥) → RoseWithin (tight tree shift tables) a.merges b.merges
   part-tight shift news tables tree tree_now caller caller_now a b failed is w firm unmet = subst (λ (ts : List (List (List ℕ × V))). RoseWithin (tight tree shift ts) a.merges b.merges) is (w.tightly firm unmet)
 
--- A shift that fits still does where its numbers are told otherwise.
+-- A shift that fits, restated with equal numbers.
 pub fits-moved : (k l : Kind) (p q f g c d n o : ℕ) (shift : Shift) → k ≡ l → p ≡ q → f ≡ g → c ≡ d → n ≡ o → FitsShift k p f c n shift → FitsShift l q g d o shift
 fits-moved k l p q f g c d n o shift ek ep ef ec en fits =
     subst (λ (x : ℕ). FitsShift l q g d x shift) en
@@ -66,11 +66,11 @@ fits-moved k l p q f g c d n o shift ek ep ef ec en fits =
     (subst (λ (x : Kind). FitsShift x p f c n shift) ek fits))))
 
 module _ {V T : Type 0} (view : T → TreeView V) (pins : T → List PinName) (bound : T → Shift → ℕ) (tight : T → Shift → List (List (List ℕ × V)) → ℕ) (shaped : Shape → Shift → Shape) where
-  -- Of a part that may have failed less is known.
+  -- Less is known of a part that may have failed.
   pub part-failed : (shift : Shift) (news : List (SheetOf V)) (tree tree_now : T) (caller caller_now : CallerView) (a b : Counts) (failed : Bool) → IsAdvancedPart view pins bound tight shaped shift news tree caller tree_now caller_now a b failed → IsAdvancedPart view pins bound tight shaped shift news tree caller tree_now caller_now a b true
   part-failed shift news tree tree_now caller caller_now a b failed w = record { drafted = λ is. absurd (true≢false is); kept = w.kept; covered = w.covered; balanced = w.balanced; loose = w.loose; counted = w.counted; tightly = w.tightly }
 
-  -- A part that was not worked.
+  -- A part whose task was not done.
   pub part-idle : (kind : Kind) (setting : ℕ) (locks : List TableId) (shift : Shift) (news : List (SheetOf V)) (tree : T) (caller : CallerView) (a : Counts) → IsReadyPart view pins kind setting locks shift tree caller news → IsAdvancedPart view pins bound tight shaped shift news tree caller tree caller a a true
   part-idle kind setting locks shift news tree caller a ready = record {
     drafted = λ is. absurd (true≢false is);

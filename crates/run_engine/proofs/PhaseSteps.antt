@@ -1,4 +1,4 @@
--- What the first phase makes of each lane.
+-- The first phase, for each lane.
 use Rattle.std.proofs.Common.{◌≡◌, ℕ, zero, suc, ◌+◌, ◌<◌, ◌≤◌, ◌⊎◌, inl, inr, ⊎_elim, Bool, true, false, true≢false, ◌==◌, List, [], ◌++◌, length, All, refl, ap, sym, subst, ◌∙◌, arith}
 use Rattle.std.specs.Prelude.{slice_index_or}
 use Rattle.std.proofs.lemmas.List.Elements.{All-filter}
@@ -25,7 +25,7 @@ use Rattle.run_engine.proofs.Dealt.{leaf_lane, leaf-lane-within, goes-times, lan
 use Rattle.run_engine.proofs.Sums.{sum-rose}
 
 module _ {V : Type 0} (m : Meaning V) (setting parts : ℕ) where
-  -- A lane between runs that was dealt what comes and what goes is ready.
+  -- A lane between runs that was dealt what comes and what leaves is ready.
   pub lane-ready : (locks : List TableId) (leaves gone : List Leaf) (fresh : List InputView) (k : ℕ) (lane lane_now : LaneView) (old_fresh old_gone new_fresh new_gone : List InputView) → lane.caller.locks ≡ locks → IsLaneOf parts setting leaves k lane → (1 ≤ parts) × (parts ≤ 16) → All (IsInputFor m setting parts) fresh → ((t : Leaf) → times t gone ≤ times t leaves)
       → old_fresh ≡ [] → old_gone ≡ [] → lane_now ≡ lane → IsDealtLane fresh gone k old_fresh old_gone new_fresh new_gone → IsReadyLane m setting parts locks lane_now new_fresh new_gone
   lane-ready locks leaves gone fresh k lane lane_now old_fresh old_gone new_fresh new_gone of holds within inputs less no_fresh no_gone same dealt =
@@ -42,11 +42,11 @@ module _ {V : Type 0} (m : Meaning V) (setting parts : ℕ) where
       zero-first : (n : ℕ) → 0 + n ≡ n
       zero-first n = omega arith
 
-  -- A lane that was worked was tried.
+  -- A lane that was done was tried.
   pub lane-tried : (fresh gone : List InputView) (old new : LaneView) (a b : Counts) (failed : Bool) → IsWorkedLane m setting parts fresh gone old new a b failed → IsTriedLane parts setting old new
   lane-tried fresh gone old new a b failed w = record { later = w.later; mapped = w.mapped; used = w.used }
 
-  -- Where it did not fail, it brought what belongs to it.
+  -- If it did not fail, it brought what belongs to it.
   pub lane-brought : (leaves gone : List Leaf) (fresh : List InputView) (k : ℕ) (lane new : LaneView) (old_fresh old_gone new_fresh new_gone : List InputView) (a b : Counts) → IsLaneOf parts setting leaves k lane → old_fresh ≡ [] → old_gone ≡ [] → IsDealtLane fresh gone k old_fresh old_gone new_fresh new_gone → IsWorkedLane m setting parts new_fresh new_gone lane new a b false
       → IsBroughtLane (texts_of fresh) gone k new
   lane-brought leaves gone fresh k lane new old_fresh old_gone new_fresh new_gone a b holds no_fresh no_gone dealt w = record {
@@ -74,11 +74,11 @@ lanes-counted f w leaves fresh b is old new le count rose others =
     (r.0, omega (arith, r, s, t))
 
 module _ {V : Type 0} (m : Meaning V) (setting parts : ℕ) where
-  -- Of a lane that may have failed less is known.
+  -- Less is known of a lane that may have failed.
   pub lane-failed : (fresh gone : List InputView) (old new : LaneView) (a b : Counts) (failed : Bool) → IsWorkedLane m setting parts fresh gone old new a b failed → IsWorkedLane m setting parts fresh gone old new a b true
   lane-failed fresh gone old new a b failed w = record { later = w.later; mapped = w.mapped; used = w.used; came = λ is. absurd (true≢false is); went = λ is. absurd (true≢false is); counted = w.counted }
 
-  -- A lane that was not worked.
+  -- A lane whose task was not done.
   pub lane-idle : (locks : List TableId) (fresh gone : List InputView) (lane : LaneView) (a : Counts) → IsReadyLane m setting parts locks lane fresh gone → IsWorkedLane m setting parts fresh gone lane lane a a true
   lane-idle locks fresh gone lane a ready = record {
     later = later-same lane.caller;

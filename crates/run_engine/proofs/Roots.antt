@@ -20,7 +20,7 @@ module _ {V : Type 0} (m : Meaning V) (good : V → Type 0) (emits_good : (r : L
   good-pairs (r ∷ rs) all = good-append good (m.emits r) (pairs_of m.emits rs) (emits_good r (All-head (λ r. IsTrue (m.accepts r)) r rs all)) (good-pairs rs (All-tail (λ r. IsTrue (m.accepts r)) r rs all))
 
   module _ (append : PartsAppend good m.joined) (parts part : ℕ) where
-    -- The table of texts behind one another.
+    -- The table of texts after one another.
     table-more : (text more : Leaf) → HasGoodValues good (pairs_of m.emits text) → HasGoodValues good (pairs_of m.emits more) → part_table m parts part (text ++ more) ≡ merged m.joined (part_table m parts part text) (part_table m parts part more)
     table-more text more g h = ap (λ ps. in_part parts part (table_of m.joined ps)) (flat_map-append m.emits text more) ∙ append parts part (pairs_of m.emits text) (pairs_of m.emits more) g h
 

@@ -54,7 +54,7 @@ module _ {A M B : Type 0} where
   row-split (a ∷ items) [] last e = absurd (omega (arith, e))
   row-split (a ∷ items) (m ∷ meters) last e = ap (λ (r : List (Task A M B)). Work a m ∷ r) (row-split items meters last (omega (arith, e)))
 
-  -- Meters behind the items are in no task.
+  -- Meters after the items are in no task.
   pub row-extra : (items : List A) (meters others : List M) (last : B) → length meters ≡ length items → row_of items (meters ++ others) last ≡ row_of items meters last
   row-extra [] meters others last e = refl
   row-extra (a ∷ items) [] others last e = absurd (omega (arith, e))
@@ -65,7 +65,7 @@ module _ {A M B : Type 0} where
   row-take (a ∷ items) [] last e = absurd (omega (arith, e))
   row-take (a ∷ items) (m ∷ meters) last e = ap (λ (r : List (Task A M B)). Work a m ∷ r) (row-take items meters last (omega (arith, e)))
 
-  -- A row that was worked in its kinds is a row.
+  -- A row that was done in its kinds is a row.
   pub worked-row : (works : ℕ → Task A M B → Task A M B → Type 0) → ((k : ℕ) (x y : Task A M B) → works k x y → SameKind x y)
       → (items : List A) (meters : List M) (last : B) → length meters ≡ length items → (done : List (Task A M B)) → IsWorked works (row_of items meters last) done
       → (now : IsRow done) × (length now.items ≡ length items)
@@ -81,7 +81,7 @@ module _ {A M B : Type 0} where
       let now = rest.0 in
       (record { items = b ∷ now.items; meters = n ∷ now.meters; last = now.last; count = ap suc now.count; is = ap (λ (r : List (Task A M B)). Work b n ∷ r) now.is }, ap suc rest.1)
 
-  -- The last of a row's works.
+  -- The last task of a row.
   pub record EndsIn (items : List A) (meters : List M) (front : List (Task A M B)) (t : Task A M B) : Type 0 where
     pub items_now : List A
     pub meters_now : List M
@@ -149,7 +149,7 @@ module _ {A M B : Type 0} where
       ap (λ (x : List A). row_of x (meters ++ ys) last) (ap (λ (x : List A). x ++ xs) e ∙ append_assoc items_now (item ∷ []) xs ∙ ap (λ (x : List A). items_now ++ x) (sym p))
       ∙ ap (λ (x : List M). row_of (items_now ++ xs_now) x last) (ap (λ (x : List M). x ++ ys) f ∙ append_assoc meters_now (meter ∷ []) ys ∙ ap (λ (x : List M). meters_now ++ x) (sym q))
 
-  -- No works are of no items.
+  -- An empty list of tasks has no items.
   pub works-none : (items : List A) (meters : List M) → length meters ≡ length items → works_of items meters ≡ [] → (items ≡ []) × (meters ≡ [])
   works-none [] meters e is = (refl, nil_from_length meters e)
   works-none (a ∷ items) [] e is = absurd (omega (arith, e))
@@ -160,7 +160,7 @@ module _ {A M B : Type 0} where
   row-length (a ∷ items) [] last e = absurd (omega (arith, e))
   row-length (a ∷ items) (m ∷ meters) last e = let r = row-length items meters last (omega (arith, e)) in omega (arith, r)
 
-  -- Rows are told apart by what is in them.
+  -- Rows with equal contents are equal.
   pub row-same : (items : List A) (meters : List M) (last : B) (items_now : List A) (meters_now : List M) (last_now : B) → length items ≤ length meters → length items_now ≤ length meters_now → drop (length items_now) meters_now ≡ drop (length items) meters
       → row_of items meters last ≡ row_of items_now meters_now last_now → (items_now ≡ items) × (meters_now ≡ meters) × (last_now ≡ last)
   row-same [] meters last [] meters_now last_now e f same is = (refl, same, let s = is in cc)
@@ -187,7 +187,7 @@ module _ {A M B : Type 0} where
   at-last (a ∷ items) [] last n = absurd (omega (arith, n))
   at-last (a ∷ items) (m ∷ meters) last n = at-last items meters last (omega (arith, n))
 
-  -- What may be worked is each of the row, and the last.
+  -- All tasks may be done if each of the row, and the last one, may.
   pub row-ready : (items : List A) (meters : List M) (last : B) (ready : ℕ → Task A M B → Type 0) → ((k : ℕ) (d : A) (e : M) → k < length items → ready k (Work (slice_index_or items k d) (slice_index_or meters k e))) → ready (length items) (Sweep last) → length items ≤ length meters
       → (k : ℕ) (x : Task A M B) → get_elem? (row_of items meters last) k ≡ some x → ready k x
   row-ready [] meters last ready each end n zero x is = subst (ready 0) (let s = is in cc) end
@@ -196,7 +196,7 @@ module _ {A M B : Type 0} where
   row-ready (a ∷ items) (m ∷ meters) last ready each end n zero x is = subst (ready 0) (let s = is in cc) (each 0 a m (omega arith))
   row-ready (a ∷ items) (m ∷ meters) last ready each end n (suc k) x is = row-ready items meters last (λ i. ready (suc i)) (λ i d e lt. each (suc i) d e (omega (arith, lt))) end (omega (arith, n)) k x is
 
-  -- Each of the row was worked, and the last.
+  -- Each task of the row was done, and the last one.
   pub each-work : (items : List A) (meters : List M) (last : B) (items_now : List A) (meters_now : List M) (last_now : B) (works : ℕ → Task A M B → Task A M B → Type 0) → length items ≤ length meters → IsRowWorked items meters last items_now meters_now last_now works
       → ((k : ℕ) (d f : A) (e g : M) → k < length items → works k (Work (slice_index_or items k d) (slice_index_or meters k e)) (Work (slice_index_or items_now k f) (slice_index_or meters_now k g))) × works (length items) (Sweep last) (Sweep last_now)
   each-work items meters last items_now meters_now last_now works n w =
@@ -206,7 +206,7 @@ module _ {A M B : Type 0} where
         w.worked.each (length items) (Sweep last) (Sweep last_now) (at-last items meters last n) (subst (λ (k : ℕ). get_elem? (row_of items_now meters_now last_now) k ≡ some (Sweep last_now)) p (at-last items_now meters_now last_now now)),
       )
 
--- Meters that no item has are as before.
+-- Meters without an item are unchanged.
 pub others-stay : {X : Type 0} (n : ℕ) (old new : List X) → length new ≡ length old → drop n new ≡ drop n old → OthersStay n old new
 others-stay {X} n old new count same = record { count = count; same = λ k d le. at k d le }
   where

@@ -1,4 +1,4 @@
--- What a run leaves of all lanes and all parts, where it stands and where it is undone.
+-- All lanes and all parts after a run that is kept, and after one that is undone.
 use Rattle.std.proofs.Common.{◌≡◌, ℕ, ◌+◌, ◌<◌, ◌⊎◌, inl, true, List, length, map, All, refl, ap, sym, subst, ◌∙◌, arith}
 use Rattle.std.specs.Prelude.{Option, IsSome, slice_index_or}
 use Rattle.atomic_table.specs.Seated.{TableId}
@@ -22,7 +22,7 @@ use Rattle.run_engine.proofs.InPlaceSteps.{pairs-then, pairs-mapped}
 use Rattle.run_engine.proofs.RunSteps.{lane-settled, lane-reverted, lane-undone, part-settled, part-shaped, part-reverted, seat-backed, loose-settled}
 
 module _ {J V M : Type 0} (parts setting : ℕ) (locks : List TableId) (leaves : List Leaf) (old mid new : List (LaneSeat J V M)) where
-  -- All lanes stand over the leaves of now.
+  -- All lanes are over the new leaves.
   pub lanes-settled : (fresh gone now : List Leaf) → EachAt (IsLaneSeat parts setting locks leaves) old → EachPair (λ k s t. IsTriedLane parts setting s.lane t.lane) old mid → EachAt (λ k s. IsBroughtLane fresh gone k s.lane) mid → EachPair (λ k s t. SettlesLane s.lane t.lane t.fresh.items t.gone.items) mid new
       → ((t : Leaf) → times t now + times t gone ≡ times t leaves + times t fresh) → EachAt (IsLaneSeat parts setting locks now) new
   lanes-settled fresh gone now seats tried brought settles balance k d lt =
@@ -41,7 +41,7 @@ module _ {J V M : Type 0} (parts setting : ℕ) (locks : List TableId) (leaves :
         no_gone = f.gone_done;
       }
 
-  -- All lanes stand over the leaves of before.
+  -- All lanes are over the old leaves.
   pub lanes-reverted : EachAt (IsLaneSeat parts setting locks leaves) old → EachPair (λ k s t. IsTriedLane parts setting s.lane t.lane) old mid → EachPair (λ k s t. RevertsLane s.lane t.lane t.fresh.items t.gone.items) mid new → EachAt (IsLaneSeat parts setting locks leaves) new
   lanes-reverted seats tried reverts k d lt =
       let n = tried.count in
@@ -72,7 +72,7 @@ module _ {J V M : Type 0} (parts setting : ℕ) (locks : List TableId) (leaves :
 
 module _ {J T V M : Type 0} (m : Meaning V) (setting parts : ℕ) (view : T → TreeView V) (pins : T → List PinName) (most : T → ℕ) where
   module _ (places first : ℕ) (locks : List TableId) (leaves : List Leaf) (old mid new : List (PartSeat J T V M)) where
-    -- All trees stand over the leaves of now.
+    -- All trees are over the new leaves.
     pub parts-settled : (shaped : Shape → Shift → Shape) (shift : Shift) (fresh : List Leaf) → EachAt (IsPartSeat m view pins most setting parts places first locks leaves) old → EachPair (λ p s t. IsTriedPart view pins s.tree s.caller t.tree t.caller) old mid → EachPair (λ p s t. IsShiftedPart view m parts shaped shift fresh p s.tree t.tree) old mid
         → EachPair (λ p s t. SettlesTree view pins most s.tree s.caller t.tree t.caller t.fresh.items) mid new → EachAt (IsPartSeat m view pins most setting parts places (first_after shift first) locks (shifted shift fresh leaves)) new
     parts-settled shaped shift fresh seats tried took settles p d lt =
@@ -92,7 +92,7 @@ module _ {J T V M : Type 0} (m : Meaning V) (setting parts : ℕ) (view : T → 
           no_fresh = f.fresh_done;
         }
 
-    -- All trees have the shape that the shift makes of the one of before.
+    -- All trees have the shape that the shift makes of the old one.
     pub shapes-settled : (shaped : Shape → Shift → Shape) (shift : Shift) (fresh : List Leaf) → EachPair (λ p s t. IsShiftedPart view m parts shaped shift fresh p s.tree t.tree) old mid → EachPair (λ p s t. SettlesTree view pins most s.tree s.caller t.tree t.caller t.fresh.items) mid new
         → EachPair (λ p s t. (view t.tree).leaves.shape ≡ shaped (view s.tree).leaves.shape shift) (map seat_view old) (map seat_view new)
     shapes-settled shaped shift fresh took settles =
@@ -100,7 +100,7 @@ module _ {J T V M : Type 0} (m : Meaning V) (setting parts : ℕ) (view : T → 
         (pairs-then (λ p (s t : PartSeat J T V M). IsShiftedPart view m parts shaped shift fresh p s.tree t.tree) (λ p (s t : PartSeat J T V M). SettlesTree view pins most s.tree s.caller t.tree t.caller t.fresh.items) (λ p (s t : PartSeat J T V M). (view t.tree).leaves.shape ≡ shaped (view s.tree).leaves.shape shift) old mid new
         (λ p s t u a b. part-shaped m setting parts view pins fresh p shaped shift s.tree t.tree u.tree a b.settled_is) took settles)
 
-    -- All trees stand over the leaves of before.
+    -- All trees are over the old leaves.
     pub parts-reverted : EachAt (IsPartSeat m view pins most setting parts places first locks leaves) old → EachPair (λ p s t. IsTriedPart view pins s.tree s.caller t.tree t.caller) old mid → EachPair (λ p s t. RevertsTree view pins most s.tree s.caller t.tree t.caller t.fresh.items) mid new
         → EachAt (IsPartSeat m view pins most setting parts places first locks leaves) new
     parts-reverted seats tried reverts p d lt =
@@ -157,7 +157,7 @@ module _ {J T V M : Type 0} (m : Meaning V) (setting parts : ℕ) (view : T → 
       let k = took.each p d d lo in
       record { of = t.balanced.later.locks ∙ (seats p d lo).of; covered = t.covered; draft = subst (λ (o : Option (Leaves V)). IsSome o) (sym (ap (λ (v : TreeView V). v.draft) k.drafted.is)) refl }
 
-  -- Where a run stands, a tree is loose only where it may be.
+  -- If a run is kept, a tree is loose only if it may be.
   pub loose-stands : (shaped : Shape → Shift → Shape) (shift : Shift) (fresh : List Leaf) (now : List (PartSeat J T V M)) → EachPair (λ p s t. IsTriedPart view pins s.tree s.caller t.tree t.caller) old mid → EachPair (λ p s t. IsShiftedPart view m parts shaped shift fresh p s.tree t.tree) old mid → EachPair (λ p s t. SettlesTree view pins most s.tree s.caller t.tree t.caller t.fresh.items) mid now
       → (p : ℕ) (d e : PartSeat J T V M) → p < length old → (view (slice_index_or now p e).tree).leaves.loose ≡ true → ((view (slice_index_or old p d).tree).leaves.loose ≡ true) ⊎ Met (slice_index_or old p d).caller (slice_index_or now p e).caller
   loose-stands shaped shift fresh now tried took settles p d e lt =
@@ -167,7 +167,7 @@ module _ {J T V M : Type 0} (m : Meaning V) (setting parts : ℕ) (view : T → 
       let f = settles.each p d e (omega (arith, lt, n)) in
       loose-settled m setting parts view pins (slice_index_or old p d).tree (slice_index_or mid p d).tree (slice_index_or now p e).tree (slice_index_or old p d).caller (slice_index_or mid p d).caller (slice_index_or now p e).caller k.drafted.draft t.loose (ap (λ (v : TreeView V). v.draft) k.drafted.is) f.settled_is f.balanced.later
 
-  -- Where a run is undone, a tree is as loose as before.
+  -- If a run is undone, a tree is as loose as before.
   pub loose-undone : (now : List (PartSeat J T V M)) → EachPair (λ p s t. IsTriedPart view pins s.tree s.caller t.tree t.caller) old mid → EachPair (λ p s t. RevertsTree view pins most s.tree s.caller t.tree t.caller t.fresh.items) mid now
       → (p : ℕ) (d e : PartSeat J T V M) → p < length old → (view (slice_index_or now p e).tree).leaves.loose ≡ true → ((view (slice_index_or old p d).tree).leaves.loose ≡ true) ⊎ Met (slice_index_or old p d).caller (slice_index_or now p e).caller
   loose-undone now tried reverts p d e lt is =

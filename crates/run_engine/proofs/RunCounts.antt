@@ -1,4 +1,4 @@
--- What the meters of the parts counted in a run, with the trees and callers of before and of now.
+-- What the meters of the parts counted in a run, with the old and the new trees and callers.
 use Rattle.std.proofs.Common.{◌≡◌, ℕ, zero, suc, ◌*◌, ◌<◌, ◌≤◌, ◌⊎◌, true, false, List, [], ◌∷◌, length, map, ap, sym, subst, ◌∙◌, arith}
 use Rattle.std.specs.Prelude.{slice_index_or}
 use Rattle.std.proofs.lemmas.List.{length-map}
@@ -29,7 +29,7 @@ greatest-least (n ∷ ns) zero = omega arith
 greatest-least (n ∷ ns) (suc k) = let r = greatest-least ns k in omega (arith, r)
 
 module _ {V M T : Type 0} (counts : M → Counts) (m : Meaning V) (bound : ℕ → Shape → ℕ → Shift → ℕ) (tight : T → Shift → List (List (List ℕ × V)) → ℕ) (view : T → TreeView V) where
-  -- Of one part: what it counted before its draft was settled or dropped.
+  -- One part: what it counted before its draft was settled or dropped.
   pub part-worked : (parts places : ℕ) (w : WindowView) (leaves : List Leaf) (part : ℕ) (a b : M) (old new : SeatView T) (caller_mid : CallerView) → w.window.leaves ≡ shifted (shift_of w) (fresh_leaves w) leaves → (view old.tree).places ≡ places → (view old.tree).leaves.tables ≡ map (part_table m parts part) leaves
       → RoseBy 0 (bound_of view bound old.tree (shift_of w)) (bound_of view bound old.tree (shift_of w) * distinct_keys (shifted (shift_of w) (map (part_table m parts part) (fresh_leaves w)) (view old.tree).leaves.tables)) (counts a) (counts b)
       → ((view old.tree).leaves.loose ≡ false → (Met old.caller caller_mid → ⊥) → RoseWithin (tight old.tree (shift_of w) (map (part_table m parts part) (fresh_leaves w))) (counts a).merges (counts b).merges)

@@ -1,4 +1,4 @@
--- The ends of a run: what the engine is then, by what it was and what its parts did.
+-- The ends of a run: the engine afterwards, by what it was and what its parts did.
 use Rattle.std.proofs.Common.{◌≡◌, ℕ, ◌+◌, ◌<◌, ◌⊎◌, Bool, true, false, List, [], length, map, All, refl, ap, sym, subst, ◌∙◌, arith}
 use Rattle.std.specs.Prelude.{Option, slice_index_or}
 use Rattle.atomic_table.specs.Seated.{TableId}
@@ -44,7 +44,7 @@ texts-shifted parts setting shift fresh now leaves leaves_mid news leaves_now le
     ∙ ap (λ (l : List Leaf). shifted shift l (texts_of leaves)) (ap texts_of made ∙ texts-for parts setting fresh)
     ∙ sym leads
 
--- A collector that swept is still one of its memo.
+-- A collector that swept is still a collector of its memo.
 pub collects : (locks : List TableId) (keep horizon : ℕ) (old new : CollectorView) (failed : Bool) → IsCollectorIn locks keep old → IsSwept horizon old new failed → IsCollectorIn locks keep new
 collects locks keep horizon old new failed c s = record { of = s.later.locks ∙ c.of; keep_is = s.keep ∙ c.keep_is }
 
@@ -62,7 +62,7 @@ module _ {J T V M : Type 0} (mean : J → Meaning V) (view : T → TreeView V) (
     (leaf_horizon merge_horizon : ℕ) (failed : Bool) (leaf_swept : IsSwept leaf_horizon (swept_by ls) (swept_by ls_now) failed) (merge_swept : IsSwept merge_horizon (swept_by ms) (swept_by ms_now) failed)
     (v : EngineView J T) (seen : engine_of job settings runs first leaves leaf_memo merge_memo lanes parts ls ms ≡ v) where
   module _ (same : leaves_now ≡ leaves) (lanes_end : EachPair (λ k s t. RevertsLane s.lane t.lane t.fresh.items t.gone.items) lanes_mid lanes_now) (parts_end : EachPair (λ p s t. RevertsTree view pins most s.tree s.caller t.tree t.caller t.fresh.items) parts_mid parts_now) where
-    -- A run that was undone: all holds as before.
+    -- A run that was undone: everything holds as before.
     pub whole-undone : IsWhole (mean job) view pins most setting first settings (texts_of leaves_now) leaf_memo.locks merge_memo.locks lanes_now parts_now (swept_by ls_now) (swept_by ms_now)
     whole-undone =
         subst (λ (l : List InputView). IsWhole (mean job) view pins most setting first settings (texts_of l) leaf_memo.locks merge_memo.locks lanes_now parts_now (swept_by ls_now) (swept_by ms_now)) (sym same) (record {
@@ -97,7 +97,7 @@ module _ {J T V M : Type 0} (mean : J → Meaning V) (view : T → TreeView V) (
       (brought : EachAt (λ k s. IsBroughtLane (fresh_leaves w) (left [] (shift_of w) (texts_of leaves)) k s.lane) lanes_mid)
       (took : EachPair (λ p s t. IsShiftedPart view (mean job) settings.parts shaped (shift_of w) (fresh_leaves w) p s.tree t.tree) parts parts_mid)
       (lanes_end : EachPair (λ k s t. SettlesLane s.lane t.lane t.fresh.items t.gone.items) lanes_mid lanes_now) (parts_end : EachPair (λ p s t. SettlesTree view pins most s.tree s.caller t.tree t.caller t.fresh.items) parts_mid parts_now) where
-    -- A run that stands.
+    -- A run that is kept.
     pub whole-settled : IsWhole (mean job) view pins most setting first_now settings (texts_of leaves_now) leaf_memo.locks merge_memo.locks lanes_now parts_now (swept_by ls_now) (swept_by ms_now)
     whole-settled =
         subst (λ (f : ℕ). IsWhole (mean job) view pins most setting f settings (texts_of leaves_now) leaf_memo.locks merge_memo.locks lanes_now parts_now (swept_by ls_now) (swept_by ms_now)) (sym first_is) (
@@ -113,7 +113,7 @@ module _ {J T V M : Type 0} (mean : J → Meaning V) (view : T → TreeView V) (
           merge_sweeps = collects merge_memo.locks settings.keep merge_horizon (swept_by ms) (swept_by ms_now) failed whole.merge_sweeps merge_swept;
         }))
 
-    -- It swept all shards of both memos, where no sweep failed.
+    -- It swept all shards of both memos, if no sweep failed.
     pub a-run : failed ≡ false → leaf_horizon ≡ horizon_of (swept_by ls).keep (runs + 1) → merge_horizon ≡ horizon_of (swept_by ms).keep (runs + 1) → IsRun view shaped w v (engine_of job settings (runs + 1) first_now leaves_now leaf_memo merge_memo lanes_now parts_now ls_now ms_now)
     a-run well l r = subst (λ (o : EngineView J T). IsRun view shaped w o (engine_of job settings (runs + 1) first_now leaves_now leaf_memo merge_memo lanes_now parts_now ls_now ms_now)) seen (record {
       runs = refl;
@@ -132,17 +132,17 @@ module _ {J T V M : Type 0} (mean : J → Meaning V) (view : T → TreeView V) (
       merge_collector = merge_swept.later;
     })
 
-  -- What no run changes, as the engine is seen.
+  -- What no run changes, by the engine's model.
   same-seen : (runs_now first_now : ℕ) → IsSameEngine v (engine_of job settings runs_now first_now leaves_now leaf_memo merge_memo lanes_now parts_now ls_now ms_now)
   same-seen runs_now first_now = subst (λ (o : EngineView J T). IsSameEngine o (engine_of job settings runs_now first_now leaves_now leaf_memo merge_memo lanes_now parts_now ls_now ms_now)) seen (record { job = refl; settings = refl; leaf_memo = refl; merge_memo = refl })
 
-  -- What the leaf memo's collector swept, as the engine is seen.
+  -- What the leaf memo's collector swept, by the engine's model.
   leaf-swept-seen : leaf_horizon ≡ horizon_of (swept_by ls).keep (runs + 1) → SweptSome (horizon_of v.settings.keep (v.runs + 1)) v.leaf_collector.caller (swept_by ls_now).caller
   leaf-swept-seen l =
       subst (λ (o : EngineView J T). SweptSome (horizon_of o.settings.keep (o.runs + 1)) o.leaf_collector.caller (swept_by ls_now).caller) seen
       (swept-some leaf_memo.locks settings.keep (runs + 1) (swept_by ls) (swept_by ls_now) failed whole.leaf_sweeps (subst (λ (h : ℕ). IsSwept h (swept_by ls) (swept_by ls_now) failed) l leaf_swept))
 
-  -- What the merge memo's swept.
+  -- What the merge memo's collector swept.
   merge-swept-seen : merge_horizon ≡ horizon_of (swept_by ms).keep (runs + 1) → SweptSome (horizon_of v.settings.keep (v.runs + 1)) v.merge_collector.caller (swept_by ms_now).caller
   merge-swept-seen r =
       subst (λ (o : EngineView J T). SweptSome (horizon_of o.settings.keep (o.runs + 1)) o.merge_collector.caller (swept_by ms_now).caller) seen
@@ -159,7 +159,7 @@ module _ {J T V M : Type 0} (mean : J → Meaning V) (view : T → TreeView V) (
           joins = joins-within (mean job).emits (texts_of leaves) (fresh_leaves w) w.window.leaves (sum_of (λ n. (counts n).joins) lane_meters) (sum_of (λ n. (counts n).joins) lane_meters_now) sub counted.joins;
         }))
 
-    -- Each meter rose in its place.
+    -- Each meter increased in its place.
     row-rose : LanesCounted (mean job) counts (texts_of leaves) (fresh_leaves w) lane_meters lane_meters_now → PartsCounted view counts (mean job) settings.parts (bound_of view bound) tight (shift_of w) (fresh_leaves w) parts parts_mid part_meters part_meters_now
         → RowRose counts row (record { lanes = lane_meters_now; parts = part_meters_now })
     row-rose lane_counted part_counted = subst (λ (r : Row M). RowRose counts r (record { lanes = lane_meters_now; parts = part_meters_now })) row_seen (record {
@@ -167,7 +167,7 @@ module _ {J T V M : Type 0} (mean : J → Meaning V) (view : T → TreeView V) (
       parts = parts-rose view counts (mean job) settings.parts (bound_of view bound) tight (shift_of w) (fresh_leaves w) parts parts_mid part_meters part_meters_now (let n = whole.parts_count in omega (arith, n)) tried_parts.count part_counted;
     })
 
-    -- What the parts' meters counted, where the callers of now are later than those that counted.
+    -- What the parts' meters counted, where the new callers are later than those that counted.
     parts-worked-by : PartsCounted view counts (mean job) settings.parts (bound_of view bound) tight (shift_of w) (fresh_leaves w) parts parts_mid part_meters part_meters_now → length parts_now ≡ length parts_mid
         → ((p : ℕ) (d e : PartSeat J T V M) → p < length parts_mid → IsLater (slice_index_or parts_mid p d).caller (slice_index_or parts_now p e).caller)
         → ((p : ℕ) (d e : PartSeat J T V M) → p < length parts → (view (slice_index_or parts_now p e).tree).leaves.loose ≡ true → ((view (slice_index_or parts p d).tree).leaves.loose ≡ true) ⊎ Met (slice_index_or parts p d).caller (slice_index_or parts_now p e).caller)
@@ -181,7 +181,7 @@ module _ {J T V M : Type 0} (mean : J → Meaning V) (view : T → TreeView V) (
         parts-clause counts (mean job) bound tight view pins most setting settings.parts settings.places merge_memo.locks w first (texts_of leaves) parts parts_mid parts_now part_meters part_meters_now since whole.parts_are n o (count ∙ o) counted
         (λ p d e lt. later p d e (omega (arith, lt, n, o))) (λ p d e lt. loose p d e (omega (arith, lt, n))) share (omega (arith, within)) (omega (arith, within, many))))
 
-    -- All that a run does whatever it answers, by what its ends did.
+    -- All that a run does, whatever it returns, by what its steps did.
     pub run-worked : (runs_now first_now : ℕ) → IsLaterEngine v (engine_of job settings runs_now first_now leaves_now leaf_memo merge_memo lanes_now parts_now ls_now ms_now) → LanesCounted (mean job) counts (texts_of leaves) (fresh_leaves w) lane_meters lane_meters_now
         → PartsCounted view counts (mean job) settings.parts (bound_of view bound) tight (shift_of w) (fresh_leaves w) parts parts_mid part_meters part_meters_now → length parts_now ≡ length parts_mid
         → ((p : ℕ) (d e : PartSeat J T V M) → p < length parts_mid → IsLater (slice_index_or parts_mid p d).caller (slice_index_or parts_now p e).caller)

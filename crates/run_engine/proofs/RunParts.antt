@@ -1,4 +1,4 @@
--- What the meters of the parts counted in a run, over the seats of before and of now.
+-- What the meters of the parts counted in a run, over the old and the new seats.
 use Rattle.std.proofs.Common.{◌≡◌, ℕ, zero, suc, ◌*◌, ◌<◌, ◌≤◌, ◌⊎◌, inl, inr, ⊎_elim, true, List, length, map, refl, ap, sym, subst, ◌∙◌, arith}
 use Rattle.std.specs.Prelude.{slice_index_or}
 use Rattle.std.proofs.lemmas.List.{length-map, get_or_default}
@@ -77,7 +77,7 @@ module _ {J T V M : Type 0} (counts : M → Counts) (m : Meaning V) (bound : ℕ
           subst (λ (a : SeatView T). PartWorked counts m bound tight view parts places (length leaves) w p (slice_index_or before p d) (slice_index_or after p e) a (slice_index_or (map seat_view now) p t)) (ap seat_view (x.1 x.0) ∙ sym rx)
           (subst (λ (b : SeatView T). PartWorked counts m bound tight view parts places (length leaves) w p (slice_index_or before p d) (slice_index_or after p e) (seat_view (slice_index_or seats p x.0)) b) (ap seat_view (y.1 y.0) ∙ sym ry) here)
 
--- Where no part was worked.
+-- When no part's task was done.
 pub parts-uncounted : {J T V M : Type 0} (counts : M → Counts) (m : Meaning V) (bound : T → Shift → ℕ) (tight : T → Shift → List (List (List ℕ × V)) → ℕ) (view : T → TreeView V) (parts : ℕ) (shift : Shift) (fresh : List Leaf) (seats now : List (PartSeat J T V M)) (before : List M) → parts ≤ length before → PartsCounted view counts m parts bound tight shift fresh seats now before before
 parts-uncounted {J} {T} {V} {M} counts m bound tight view parts shift fresh seats now before few = record {
   others_stay = record { count = refl; same = λ k d le. refl };

@@ -1,4 +1,4 @@
--- What the steps of a run make of each lane and each part.
+-- The steps of a run, for each lane and each part.
 use Rattle.std.proofs.Common.{◌≡◌, ℕ, ◌+◌, ◌≤◌, ◌⊎◌, inl, inr, ⊎_elim, true, List, length, ap, sym, subst, ◌∙◌, arith}
 use Rattle.std.specs.Prelude.{Option, Some}
 use Rattle.std.specs.List.{sum_by}
@@ -25,7 +25,7 @@ use Rattle.run_engine.proofs.Dealt.{lane-led}
 use Rattle.run_engine.proofs.Leads.{tree-leads}
 
 module _ (parts setting : ℕ) (leaves : List Leaf) (k : ℕ) where
-  -- A lane that tried, brought and settled stands over the leaves of now.
+  -- A lane that tried, brought and settled is over the new leaves.
   pub lane-settled : (fresh gone now : List Leaf) (old mid new : LaneView) → IsLaneOf parts setting leaves k old → IsTriedLane parts setting old mid → IsBroughtLane fresh gone k mid → Settles mid.texts new.texts → IsFinished mid new
       → ((t : Leaf) → times t now + times t gone ≡ times t leaves + times t fresh) → IsLaneOf parts setting now k new
   lane-settled fresh gone now old mid new holds tried brought settles finished balance = record {
@@ -37,7 +37,7 @@ module _ (parts setting : ℕ) (leaves : List Leaf) (k : ℕ) where
     spare = finished.spare;
   }
 
-  -- A lane that tried and reverted stands over the leaves of before.
+  -- A lane that tried and reverted is over the old leaves.
   pub lane-reverted : (old mid new : LaneView) → IsLaneOf parts setting leaves k old → IsTriedLane parts setting old mid → Reverts mid.texts new.texts → IsFinished mid new → IsLaneOf parts setting leaves k new
   lane-reverted old mid new holds tried reverts finished = record {
     used = λ t. reverts.used t ∙ tried.used t ∙ holds.used t;
@@ -57,20 +57,20 @@ settled-leaves : {V : Type 0} (v : TreeView V) (d : Leaves V) → v.draft ≡ So
 settled-leaves {V} v d is = ap (λ (o : Option (Leaves V)). (settled_by v o).leaves) is
 
 module _ {V T : Type 0} (m : Meaning V) (setting parts : ℕ) (view : T → TreeView V) (pins : T → List PinName) where
-  -- A tree that took the shift and settled stands over the leaves of now.
+  -- A tree that took the shift and settled is over the new leaves.
   pub part-settled : (places first : ℕ) (leaves fresh : List Leaf) (part : ℕ) (shaped : Shape → Shift → Shape) (shift : Shift) (old mid new : T) → IsTreeOf m setting parts places first leaves part (view old) → IsShiftedPart view m parts shaped shift fresh part old mid → view new ≡ settled (view mid)
       → IsTreeOf m setting parts places (first_after shift first) (shifted shift fresh leaves) part (view new)
   part-settled places first leaves fresh part shaped shift old mid new stands took is =
       subst (IsTreeOf m setting parts places (first_after shift first) (shifted shift fresh leaves) part) (sym is)
       (tree-leads m setting parts places first leaves part shift fresh shaped took.news took.tables (view old) (view mid) stands took.drafted)
 
-  -- Its shape is the one that the shift makes of the shape of before.
+  -- Its shape is the one that the shift makes of the old shape.
   pub part-shaped : (fresh : List Leaf) (part : ℕ) (shaped : Shape → Shift → Shape) (shift : Shift) (old mid new : T) → IsShiftedPart view m parts shaped shift fresh part old mid → view new ≡ settled (view mid) → (view new).leaves.shape ≡ shaped (view old).leaves.shape shift
   part-shaped fresh part shaped shift old mid new took is =
       let d = took.drafted in
       ap (λ (t : TreeView V). t.leaves.shape) is ∙ ap (λ (l : Leaves V). l.shape) (settled-leaves (view mid) d.draft (ap (λ (t : TreeView V). t.draft) d.is)) ∙ d.of.shape
 
-  -- A tree that reverted is as before.
+  -- A tree that reverted is unchanged.
   pub part-reverted : (old mid new : T) (caller caller_mid : CallerView) → IsTriedPart view pins old caller mid caller_mid → view new ≡ reverted (view mid) → view new ≡ view old
   part-reverted old mid new caller caller_mid tried is = is ∙ tried.kept
 
@@ -79,7 +79,7 @@ module _ {V T : Type 0} (m : Meaning V) (setting parts : ℕ) (view : T → Tree
   seat-backed old mid new caller caller_mid caller_now backed tried covered balanced =
       backed-then caller_mid caller_now (pins mid) (pins new) (backed-then caller caller_mid (pins old) (pins mid) backed tried.balanced tried.covered.given) balanced covered.given
 
-  -- A tree without a draft that took a shift is loose only where it may be.
+  -- A tree without a draft that took a shift is loose only if it may be.
   pub loose-settled : (old mid new : T) (caller caller_mid caller_now : CallerView) (draft : Leaves V) → LooseOnlyIf (Met caller caller_mid) (view old) (view mid) → (view mid).draft ≡ Some draft → view new ≡ settled (view mid) → IsLater caller_mid caller_now
       → (view new).leaves.loose ≡ true → ((view old).leaves.loose ≡ true) ⊎ Met caller caller_now
   loose-settled old mid new caller caller_mid caller_now draft loose drafted is later now =

@@ -7,13 +7,13 @@ use Rattle.std.proofs.lemmas.List.{drop_more, reverse-reverse, reverse-append, l
 use Rattle.record_text.specs.Shifts.{put_at}
 
 module _ {X : Type 0} where
-  -- One more is put in its place.
+  -- One more item is put at its place.
   pub put-next : (places : List ℕ) (fresh rest xs : List X) (i p : ℕ) (y : X) → i < length places → p ≡ slice_index places i → fresh ≡ y ∷ rest → put_at (drop i places) fresh xs ≡ put_at (drop (i + 1) places) rest (slice_set xs p y)
   put-next places fresh rest xs i p y lt read is =
       ap (λ (l : List ℕ). put_at l fresh xs) (drop_more places i 0 lt ∙ ap (λ (q : ℕ). q ∷ drop (i + 1) places) (sym read))
       ∙ ap (λ (l : List X). put_at (p ∷ drop (i + 1) places) l xs) is
 
-  -- The last of what is left to put, behind one another, is the first of it.
+  -- The items that are left to put, taken from the end, are those from the first on.
   pub last-of : (i : ℕ) (fresh before : List X) (y : X) → reverse (drop i fresh) ≡ before ++ y ∷ [] → drop i fresh ≡ y ∷ reverse before
   last-of i fresh before y is = sym (reverse-reverse (drop i fresh)) ∙ ap (λ (l : List X). reverse l) is ∙ reverse-append before (y ∷ [])
 
@@ -23,7 +23,7 @@ module _ {X : Type 0} where
       drop-drop-one : (i : ℕ) (xs : List X) → drop 1 (drop i xs) ≡ drop (i + 1) xs
       drop-drop-one i xs = drop-drop 1 i xs
 
-  -- What stands behind is turned to the front and back again.
+  -- The rest is turned to the front and back again.
   pub spliced : (old news turned cut more now : List X) (first gone behind : ℕ) → first + gone ≤ length old → behind + (first + gone) ≡ length old → turned ≡ drop (first + gone) old ++ take (first + gone) old → cut ≡ take (behind + first) turned → more ≡ cut ++ news → now ≡ drop behind more ++ take behind more
       → now ≡ (take first old ++ news) ++ drop (first + gone) old
   spliced old news turned cut more now first gone behind within count turn cuts adds turns =

@@ -14,7 +14,7 @@ module _ {X : Type 0} where
       ∙ take_more (drop from xs) (i - from) d (omega (arith, n, le, lt))
       ∙ ap (λ (x : X). take (i - from) (drop from xs) ++ x ∷ []) (get_or-drop from xs (i - from) d ∙ ap (λ (k : ℕ). slice_index_or xs k d) back)
 
-  -- One item more behind items made of a list.
+  -- One item more after items made of a list.
   pub pushed-more : {Y : Type 0} (f : X → Y) (begun : List Y) (xs : List X) (now new : List Y) (x : X) (y : Y) → now ≡ begun ++ map f xs → new ≡ now ++ y ∷ [] → y ≡ f x → new ≡ begun ++ map f (xs ++ x ∷ [])
   pushed-more f begun xs now new x y was is made =
       is ∙ ap (λ (l : List _). l ++ y ∷ []) was ∙ append_assoc begun (map f xs) (y ∷ [])

@@ -1,4 +1,4 @@
--- What meters counted together, each in its place.
+-- What meters counted together, each at its place.
 use Rattle.std.proofs.Common.{◌≡◌, ℕ, zero, suc, ◌+◌, ◌*◌, ◌<◌, ◌≤◌, List, [], ◌∷◌, ◌++◌, length, map, refl, ap, sym, ◌∙◌, arith}
 use Rattle.std.specs.Prelude.{slice_index_or}
 use Rattle.std.proofs.Math.Nat.{mul-add}
@@ -62,7 +62,7 @@ below-scaled b d most (suc n) less =
     let q = mul-add most (sum_below d n) (d n) in
     omega (arith, a, p, q)
 
--- The parts share the keys of the leaves out.
+-- The keys of the leaves are distributed over the parts.
 module _ {V : Type 0} (m : Meaning V) where
   ends-are : (leaves : List Leaf) → end_to_end (map (pairs_of m.emits) leaves) ≡ pairs_of m.emits (joined leaves)
   ends-are [] = refl

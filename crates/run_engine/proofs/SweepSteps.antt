@@ -1,4 +1,4 @@
--- What one sweep leaves of a collector, and what is known of sweeps that failed or were not begun.
+-- What one sweep changes in a collector, and what is known of sweeps that failed or were not begun.
 use Rattle.std.proofs.Common.{◌≡◌, ℕ, zero, suc, ◌+◌, ◌<◌, ◌≤◌, ◌^◌, ◌⊎◌, inl, inr, ⊎_elim, Bool, true, false, true≢false, [], ◌∷◌, ◌++◌, length, refl, ap, sym, subst, ◌∙◌, arith, Result, Ok, Err, OnOk, OnErr}
 use Rattle.std.specs.Prelude.{is_err, Option, Some, IsSome, option_map}
 use Rattle.memo_core.specs.declared.event.Event.TheVariants.{Sweep}
@@ -34,7 +34,7 @@ module _ (horizon shard : ℕ) (old new : CollectorView) where
         others = known-else (WornOut ticket) shard old.caller new.caller at;
       }
 
-  -- Memory was wanting.
+  -- Out of memory.
   pub missed-one : new.keep ≡ old.keep → AtShard (Missed old.caller.number) shard old.caller new.caller → {A E : Type 0} (e : E) → IsSweptAt {A = A} {E = E} horizon shard old new (Err e)
   missed-one keep at e =
       let missed = goes-there (Missed old.caller.number) shard old.caller new.caller at in
@@ -46,7 +46,7 @@ module _ (horizon shard : ℕ) (old new : CollectorView) where
         others = known-else (Missed old.caller.number) shard old.caller new.caller at;
       }
 
--- A sweep at the same horizon, told otherwise.
+-- A sweep at the same horizon, restated.
 pub at-horizon : {A E : Type 0} {r : Result A E} (g h shard : ℕ) (old new : CollectorView) → g ≡ h → IsSweptAt {A = A} {E = E} g shard old new r → IsSweptAt {A = A} {E = E} h shard old new r
 at-horizon {A} {E} {r} g h shard old new same at = subst (λ (i : ℕ). IsSweptAt {A = A} {E = E} i shard old new r) same at
 
@@ -60,7 +60,7 @@ pub record SweptUpTo (horizon n : ℕ) (old new : CollectorView) : Type 0 where
 pub swept-none : (horizon : ℕ) (old : CollectorView) → SweptUpTo horizon 0 old old
 swept-none horizon old = record { keep = refl; later = later-same old.caller; done = λ s lt. absurd (omega (arith, lt)); ahead = λ s le. refl }
 
--- Swept at the most once.
+-- Swept at most once.
 at-most : (s horizon : ℕ) (old new : CallerView) → SweptAt s horizon old new → SweptAtMost s horizon old new
 at-most s horizon old new at = ⊎_elim (λ (o : SweptOnce s horizon old new). inl o) (λ (w : ((known_at s new).mine ≡ (known_at s old).mine) × IsWorn s new). inr w.0) at
 
@@ -87,7 +87,7 @@ module _ (horizon n : ℕ) (old mid new : CollectorView) (so : SweptUpTo horizon
   most-since : (s : ℕ) → known_at s mid.caller ≡ known_at s old.caller → SweptAtMost s horizon mid.caller new.caller → SweptAtMost s horizon old.caller new.caller
   most-since s same at = ⊎_elim (λ (o : SweptOnce s horizon mid.caller new.caller). inl (once-since s same o)) (λ (w : (known_at s new.caller).mine ≡ (known_at s mid.caller).mine). inr (w ∙ ap (λ (k : ShardKnown). k.mine) same)) at
 
-  -- A shard that was swept before is as it was then.
+  -- A shard that was swept before is unchanged since.
   kept-since : (s : ℕ) → known_at s new.caller ≡ known_at s mid.caller → SweptAt s horizon old.caller mid.caller → SweptAt s horizon old.caller new.caller
   kept-since s same at =
       ⊎_elim (λ (o : SweptOnce s horizon old.caller mid.caller). inl (o.0, ap (λ (k : ShardKnown). k.mine) same ∙ o.1)) (λ (w : ((known_at s mid.caller).mine ≡ (known_at s old.caller).mine) × IsWorn s mid.caller). inr (ap (λ (k : ShardKnown). k.mine) same ∙ w.0, subst (λ (k : ShardKnown). 2 ^ 62 ≤ k.shown) (sym same) w.1)) at
@@ -122,7 +122,7 @@ swept-all horizon n old new so le = record {
   some = λ s lt. at-most s horizon old.caller new.caller (so.done s (omega (arith, lt, le)));
 }
 
--- Of one that may have failed less is known.
+-- Less is known of a sweep that may have failed.
 pub sweep-failed : (horizon : ℕ) (old new : CollectorView) (failed : Bool) → IsSwept horizon old new failed → IsSwept horizon old new true
 sweep-failed horizon old new failed s = record { keep = s.keep; later = s.later; all = λ is. absurd (true≢false is); some = s.some }
 
@@ -130,7 +130,7 @@ sweep-failed horizon old new failed s = record { keep = s.keep; later = s.later;
 pub sweep-idle : (horizon : ℕ) (old : CollectorView) → IsSwept horizon old old true
 sweep-idle horizon old = record { keep = refl; later = later-same old.caller; all = λ is. absurd (true≢false is); some = λ s lt. inr refl }
 
--- What holds where a call did not fail.
+-- What holds if a call did not fail.
 pub ok-from : {A E : Type 0} (r : Result A E) (P : Type 0) → (is_err r ≡ false → P) → OnOk r P
 ok-from (Ok x) P h = h refl
 ok-from (Err e) P h = tt
@@ -144,11 +144,11 @@ pub sweep-left : {S : Type 0} (f : S → CollectorView) (o : Option S) (last now
     → IsSome (Some now) × IsSwept (horizon_of (swept_by (option_map f o)).keep run) (swept_by (option_map f o)) (swept_by (option_map f (Some now))) failed
 sweep-left f o last now run failed is s = (refl, subst (λ (c : CollectorView). IsSwept (horizon_of c.keep run) c (f now) failed) (sym (took-sweep f o last is)) s)
 
--- None failed, or it may have.
+-- The sweep did not fail, or it may have.
 pub sweep-well : (horizon : ℕ) (old new : CollectorView) (failed : Bool) → failed ≡ false → IsSwept horizon old new failed → IsSwept horizon old new false
 sweep-well horizon old new failed is s = subst (IsSwept horizon old new) is s
 
--- What a call promised of an answer that is known.
+-- What a call promised of a known result.
 pub on-err : {A E P : Type 0} (r : Result A E) (e : E) → r ≡ Err e → OnErr r P → P
 on-err {A} {E} {P} r e is h = subst (λ (x : Result A E). OnErr x P) is h
 

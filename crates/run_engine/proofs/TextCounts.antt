@@ -1,4 +1,4 @@
--- What the texts cost that were not seen before, each once, and how often texts are there.
+-- The cost of texts that were not seen before, each once, and how often texts occur.
 use Rattle.std.proofs.Common.{◌≡◌, ℕ, zero, suc, ◌+◌, ◌<◌, ◌≤◌, Bool, true, false, true≢false, cond, ◌||◌, ◌==◌, List, [], ◌∷◌, length, filter, refl, ap, sym, subst, ◌∙◌, arith, length-append}
 use Rattle.std.specs.List.{sum_by}
 use Rattle.std.proofs.lemmas.List.Sums.{sum_by-cons}
@@ -12,7 +12,7 @@ use Rattle.map_tasks.specs.Texts.{same_text}
 use Rattle.map_tasks.proofs.Totals.{same-itself, same-is, same-not}
 use Rattle.run_engine.specs.NewTexts.{times, is_among, new_texts}
 
--- What the test of two numbers tells.
+-- What the test of two numbers says.
 
 pub same-number : (a b : ℕ) → (a == b) ≡ true → a ≡ b
 same-number a b is = (Decides-eqb a b).0 is
@@ -30,12 +30,12 @@ number-other a b apart = test_case (a == b) refl
     test_case true is = absurd (apart (same-number a b is))
     test_case false is = is
 
--- Seen, or the text.
+-- Seen before, or this text.
 abbrev pub with_text : Leaf → (Leaf → Bool) → Leaf → Bool
 with_text t seen u = same_text u t || seen u
 
 module _ (w : Leaf → ℕ) where
-  -- What the texts weigh that were not seen, each once.
+  -- The weight of the texts that were not seen, each once.
   abbrev pub weight : (Leaf → Bool) → List Leaf → ℕ
   weight seen ts = sum_by w (new_texts seen ts)
 
@@ -97,7 +97,7 @@ module _ (w : Leaf → ℕ) where
           apart : y ≡ t → ⊥
           apart one = let bad : true ≡ false = sym (same-itself t) ∙ subst (λ (u : Leaf). same_text t u ≡ false) one eq in cc
 
-  -- Texts that are all among others cost no more than these.
+  -- Texts that are all among others cost at most as much as these.
   pub weight-within : (seen : Leaf → Bool) (fresh all : List Leaf) → ((t : Leaf) → is_among fresh t ≡ true → is_among all t ≡ true) → weight seen fresh ≤ weight seen all
   weight-within seen [] all sub = omega arith
   weight-within seen (t ∷ ts) all sub =
@@ -138,7 +138,7 @@ below-none f (suc n) none =
     let b = none n in
     omega (arith, a, b)
 
--- One of the numbers counts so much more.
+-- One of the numbers counts more.
 pub below-one : (f g : ℕ → ℕ) (j v n : ℕ) → j < n → f j ≡ g j + v → ((k : ℕ) → (k ≡ j → ⊥) → f k ≡ g k) → sum_below f n ≡ sum_below g n + v
 below-one f g j v zero lt same other = absurd (omega (arith, lt))
 below-one f g j v (suc n) lt same other = by (j == n) refl (λ (l : j < n). below-one f g j v n l same other)
@@ -216,12 +216,12 @@ module _ (lane : Leaf → ℕ) where
           let d : cond {A = ℕ} (same_text u t) 1 0 ≡ 0 = ap (λ (b : Bool). cond {A = ℕ} b 1 0) is in
           not-there (lane u == k) (times u (lane_texts k ts)) rest (omega (arith, c, d))
 
-  -- What the texts of all lanes cost is what all texts cost.
+  -- The texts of all lanes together cost what all texts cost.
   pub lanes-weight : (w : Leaf → ℕ) (n : ℕ) → ((t : Leaf) → lane t < n) → (seen : Leaf → Bool) (ts : List Leaf) → sum_below (λ k. weight w seen (lane_texts k ts)) n ≡ weight w seen ts
   lanes-weight w n within seen [] = below-none (λ k. weight w seen (lane_texts k [])) n (λ k. refl)
   lanes-weight w n within seen (t ∷ ts) = by (seen t) refl (lanes-weight w n within seen ts) (lanes-weight w n within (with_text t seen) ts)
     where
-      -- Of the lane, the text costs as before; of another, it isn't there.
+      -- For its own lane the text costs the same; for another lane it is not there.
       there : (k : ℕ) → lane t ≡ k → lane_texts k (t ∷ ts) ≡ t ∷ lane_texts k ts
       there k at = ap (λ (b : Bool). cond b (t ∷ lane_texts k ts) (lane_texts k ts)) (number-same (lane t) k at)
 

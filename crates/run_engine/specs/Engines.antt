@@ -1,4 +1,4 @@
--- What an engine is seen as, and what holds of every engine.
+-- The model of an engine, and what holds of every engine.
 use Rattle.std.specs.Prelude.{◌≡◌, ◌≢◌, ℕ, ◌+◌, ◌<◌, ◌≤◌, ◌==◌, cond, List, [], length, map, All, Option, Some, None}
 use Rattle.atomic_table.specs.Seated.{TableId}
 use Rattle.definitions.specs.Tables.{table_of}
@@ -48,7 +48,7 @@ pub record EngineView (J T : Type 0) : Type 0 where
 abbrev pub bare_lane : CallerView → LaneView
 bare_lane caller = record { caller = caller; texts = []; spare = [] }
 
--- The number at the entries of a lane's own texts, 0 at all others.
+-- A number for the lane's own texts, 0 for all others.
 abbrev pub of_lane : ℕ → Leaf → ℕ → ℕ
 of_lane lane t n = cond (lane_at (input_digest t) 16 == lane) n 0
 
@@ -61,7 +61,7 @@ pub record IsLaneOf (parts setting : ℕ) (leaves : List Leaf) (lane : ℕ) (l :
   pub once : HoldsOnce l.caller l.texts
   pub spare : l.spare ≡ []
 
--- It is a collector of the memo with these locks.
+-- A collector of the memo with these locks.
 pub record IsCollectorIn (locks : List TableId) (keep : ℕ) (c : CollectorView) : Type 0 where
   pub of : c.caller.locks ≡ locks
   pub keep_is : c.keep ≡ keep
@@ -71,12 +71,12 @@ module _ {V : Type 0} (m : Meaning V) where
   abbrev pub part_table : ℕ → ℕ → Leaf → List (List ℕ × V)
   part_table parts part text = in_part parts part (table_of m.joined (pairs_of m.emits text))
 
-  -- The root of a part: a sheet of the table of the records of all leaves, and none exactly where there is no leaf.
+  -- The root of a part: a sheet of the table of the records of all leaves; none exactly if there is no leaf.
   abbrev pub IsAnswer : ℕ → ℕ → ℕ → List Leaf → Option (SheetOf V) → Type 0
   IsAnswer setting parts part leaves None = leaves ≡ []
   IsAnswer setting parts part leaves (Some s) = (leaves ≢ []) × (s ≡ record { setting = setting; entries = part_table parts part (joined leaves) })
 
-  -- The tree of this part stands over the leaves.
+  -- The tree of this part is over the leaves.
   pub record IsTreeOf (setting parts places first : ℕ) (leaves : List Leaf) (part : ℕ) (t : TreeView V) : Type 0 where
     pub setting_is : t.setting ≡ setting
     pub places_are : t.places ≡ places
@@ -84,11 +84,11 @@ module _ {V : Type 0} (m : Meaning V) where
     pub first_is : t.leaves.first ≡ first
     pub tables : t.leaves.tables ≡ map (part_table parts part) leaves
 
--- What a seat of a part is seen as.
+-- The model of a part's seat.
 abbrev pub seat_view : {J T V M : Type 0} → PartSeat J T V M → SeatView T
 seat_view s = record { tree = s.tree; caller = s.caller }
 
--- An engine by what it is made of.
+-- An engine, by its fields.
 abbrev pub engine_of : {J T V M : Type 0} → J → Settings → ℕ → ℕ → List InputView → MemoView → MemoView → List (LaneSeat J V M) → List (PartSeat J T V M) → Option CollectorView → Option CollectorView → EngineView J T
 engine_of job settings runs first leaves leaf_memo merge_memo lanes parts leaf_sweep merge_sweep = record {
   job = job;
@@ -112,8 +112,8 @@ pub record IsLaneSeat {J V M : Type 0} (parts setting : ℕ) (locks : List Table
   pub no_gone : s.gone.items ≡ []
 
 module _ {J T V M : Type 0} (m : Meaning V) (view : T → TreeView V) (pins : T → List PinName) (most : T → ℕ) where
-  -- The seat of a part between two runs over these leaves. Its caller holds the pins of the tree, which are no more than
-  -- it may have, and nothing beyond them where no lock was shown worn.
+  -- The seat of a part between two runs over these leaves. Its caller holds the pins of the tree, which are at most as
+  -- many as it may have, and nothing beyond them if no lock was shown worn.
   pub record IsPartSeat (setting parts places first : ℕ) (locks : List TableId) (leaves : List Leaf) (part : ℕ) (s : PartSeat J T V M) : Type 0 where
     pub of : s.caller.locks ≡ locks
     pub stands : IsTreeOf m setting parts places first leaves part (view s.tree)
@@ -121,7 +121,7 @@ module _ {J T V M : Type 0} (m : Meaning V) (view : T → TreeView V) (pins : T 
     pub few : length (pins s.tree) ≤ most s.tree
     pub no_fresh : s.fresh.items ≡ []
 
-  -- What holds of an engine between its calls, by what it is made of.
+  -- What holds of an engine between its calls, by its fields.
   pub record IsWhole (setting first : ℕ) (settings : Settings) (leaves : List Leaf) (leaf_locks merge_locks : List TableId) (lanes : List (LaneSeat J V M)) (parts : List (PartSeat J T V M)) (leaf_collector merge_collector : CollectorView) : Type 0 where
     pub settings_are : AreWithin settings
     pub accepted : All (AllAccepted m) leaves

@@ -7,7 +7,7 @@ use Rattle.map_tasks.specs.Texts.{Settles, Reverts}
 use Rattle.map_tasks.specs.Lanes.{LaneView, StayMappedSo, HoldsOnce}
 use Rattle.tree_laws.specs.Trees.{TreeView, settled, reverted}
 
--- What a lane keeps where its notes become final or are undone.
+-- What a lane keeps when its notes become final or are undone.
 pub record IsFinished (old new : LaneView) : Type 0 where
   pub later : IsLater old.caller new.caller
   pub mapped : StayMappedSo old.texts new.texts
@@ -35,7 +35,7 @@ module _ {T : Type 0} (pins : T → List PinName) where
     pub covered : Covered caller (pins tree)
 
 module _ {V T : Type 0} (view : T → TreeView V) (pins : T → List PinName) where
-  -- A draft stands, and the pins are covered.
+  -- There is a draft, and the pins are covered.
   pub record MaySettle (locks : List TableId) (tree : T) (caller : CallerView) : Type 0 where
     pub of : caller.locks ≡ locks
     pub covered : Covered caller (pins tree)

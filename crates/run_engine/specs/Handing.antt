@@ -5,7 +5,8 @@ use Rattle.map_tasks.specs.Texts.{IsMappedSo, IsHeld}
 use Rattle.map_tasks.specs.Lanes.{LaneView}
 use Rattle.run_engine.specs.InPlace.{EachAt}
 
--- Each input has so many parts or more, and the lane that it belongs to holds it; all texts of lanes are mapped as it is.
+-- Each input has at least this many parts, and the lane that it belongs to holds it; all texts of lanes are mapped in
+-- the same way.
 pub record HoldEach (parts : ℕ) (inputs : List InputView) (lanes : List LaneView) : Type 0 where
   pub count : length lanes ≡ 16
   pub within : All (λ i. parts ≤ i.parts) inputs

@@ -1,4 +1,4 @@
--- What a lane's task is ready for, and what is made of it.
+-- When a lane's task may be done, and what it makes of the lane.
 use Rattle.std.specs.Prelude.{◌≡◌, ℕ, ◌+◌, ◌≤◌, nat_lt, Bool, false, List, length, All, Result, OnOk}
 use Rattle.std.specs.List.{sum_by}
 use Rattle.atomic_table.specs.Seated.{TableId}
@@ -18,15 +18,15 @@ use Rattle.run_engine.specs.Inputs.{texts_of}
 abbrev pub is_held : List TextView → Leaf → Bool
 is_held texts t = nat_lt 0 (used_of t texts + came_of t texts)
 
--- What the texts of inputs weigh that a lane does not hold, each once.
+-- The total weight of the inputs' texts that a lane does not hold, each once.
 abbrev pub new_weight : (Leaf → ℕ) → List TextView → List InputView → ℕ
 new_weight weight texts inputs = sum_by weight (new_texts (is_held texts) (texts_of inputs))
 
--- Where each of these leaves goes, no more go than there are.
+-- Of each text no more of these leaves go than there are.
 abbrev pub MayLeave : LaneView → List InputView → Type 0
 MayLeave lane gone = (t : Leaf) → gone_of t lane.texts + times t (texts_of gone) ≤ used_of t lane.texts
 
--- Each of these leaves went, and nothing else changed.
+-- Each of these leaves left, and nothing else changed.
 pub record IsLeftBy (gone : List InputView) (old new : LaneView) : Type 0 where
   pub caller : new.caller ≡ old.caller
   pub mapped : (parts setting : ℕ) → All (IsMappedSo parts setting) old.texts → All (IsMappedSo parts setting) new.texts
@@ -35,7 +35,7 @@ pub record IsLeftBy (gone : List InputView) (old new : LaneView) : Type 0 where
   pub went : (t : Leaf) → gone_of t new.texts ≡ gone_of t old.texts + times t (texts_of gone)
 
 module _ {V : Type 0} (m : Meaning V) (setting parts : ℕ) where
-  -- The input is for this job and so many parts, and its records are accepted.
+  -- The input is for this job and this number of parts, and its records are accepted.
   pub record IsInputFor (i : InputView) : Type 0 where
     pub parts_are : i.parts ≡ parts
     pub setting_is : i.setting ≡ setting
@@ -48,7 +48,7 @@ module _ {V : Type 0} (m : Meaning V) (setting parts : ℕ) where
     pub mapped : All (IsMappedSo parts setting) lane.texts
     pub inputs : All IsInputFor fresh
 
-  -- What the lane's meter counts at the most for leaves, from one state of the lane on.
+  -- The most that the lane's meter counts for leaves, from one state of the lane on.
   abbrev pub BringCounts : List InputView → LaneView → Counts → Counts → Type 0
   BringCounts fresh lane before now = RoseBy (new_weight length lane.texts fresh) 0 (new_weight (λ t. length (pairs_of m.emits t)) lane.texts fresh) before now
 
@@ -61,12 +61,12 @@ module _ {V : Type 0} (m : Meaning V) (setting parts : ℕ) where
     pub came : OnOk result ((t : Leaf) → came_of t new.texts ≡ came_of t old.texts + times t (texts_of fresh))
     pub counted : BringCounts fresh old before now
 
-  -- The lane may bring these leaves and let those go.
+  -- The lane may bring these leaves and let those leave.
   pub record IsReadyLane (locks : List TableId) (lane : LaneView) (fresh gone : List InputView) : Type 0 where
     pub brings : MayBring locks lane fresh
     pub leaves : MayLeave lane gone
 
-  -- The lane brought these leaves and noted those that go, or failed, and no leaf that was there is forgotten.
+  -- The lane brought these leaves and noted those that leave, or failed, and no leaf that was there is forgotten.
   pub record IsWorkedLane (fresh gone : List InputView) (old new : LaneView) (before now : Counts) (failed : Bool) : Type 0 where
     pub later : IsLater old.caller new.caller
     pub mapped : All (IsMappedSo parts setting) new.texts

@@ -1,11 +1,11 @@
--- Texts of leaves: how often one is there, and which are new.
+-- Texts of leaves: how often a text occurs, and which texts are new.
 use Rattle.std.specs.Prelude.{ℕ, cond, Bool, ◌||◌, List, [], ◌∷◌}
 use Rattle.std.specs.List.{sum_by, list_any}
 use Rattle.marker_chunker.specs.Cuts.{joined}
 use Rattle.window_manager.specs.Windows.{Leaf}
 use Rattle.map_tasks.specs.Texts.{same_text}
 
--- How often a text is there.
+-- How often a text occurs.
 abbrev pub times : Leaf → List Leaf → ℕ
 times t leaves = sum_by (λ u. cond (same_text t u) 1 0) leaves
 
@@ -18,6 +18,6 @@ abbrev pub new_texts : (Leaf → Bool) → List Leaf → List Leaf
 new_texts seen [] = []
 new_texts seen (t ∷ leaves) = cond (seen t) (new_texts seen leaves) (t ∷ new_texts (λ u. same_text u t || seen u) leaves)
 
--- The records of the leaf texts of now that were no leaf texts before, each text once.
+-- The records of the leaf texts that no leaf had before, each text once.
 abbrev pub new_records : List Leaf → List Leaf → List (List ℕ)
 new_records old now = joined (new_texts (is_among old) now)

@@ -1,4 +1,4 @@
--- What a part's task is ready for, and what is made of it.
+-- When a part's task may be done, and what it makes of the part.
 use Rattle.std.specs.Prelude.{◌≡◌, ℕ, ◌*◌, Bool, false, List, length, All, None}
 use Rattle.atomic_table.specs.Seated.{TableId}
 use Rattle.job_laws.specs.declared.meter.Counts.{Counts}
@@ -24,7 +24,7 @@ module _ {V T : Type 0} (view : T → TreeView V) (pins : T → List PinName) wh
     pub settings : All (λ s. s.setting ≡ (view tree).setting) news
 
   module _ (bound : T → Shift → ℕ) (tight : T → Shift → List (List (List ℕ × V)) → ℕ) (shaped : Shape → Shift → Shape) where
-    -- The tree took it as its draft, or failed; without a draft it is as before.
+    -- The tree has the draft of the shift, or failed; apart from the draft it is unchanged.
     pub record IsAdvancedPart (shift : Shift) (news : List (SheetOf V)) (tree : T) (caller : CallerView) (tree_now : T) (caller_now : CallerView) (before now : Counts) (failed : Bool) : Type 0 where
       pub drafted : failed ≡ false → IsDrafted shaped shift news (view tree) (view tree_now)
       pub kept : reverted (view tree_now) ≡ view tree

@@ -1,4 +1,4 @@
--- What the two phases of a run are ready for, and what they leave whatever they answer.
+-- When the two phases of a run may begin, and what they leave, whatever they return.
 use Rattle.std.specs.Prelude.{◌≡◌, ℕ, ◌+◌, ◌≤◌, ◌<◌, ◌*◌, false, List, [], ◌++◌, length, map, All, None, slice_index_or}
 use Rattle.std.specs.List.{sum_by}
 use Rattle.atomic_table.specs.Seated.{TableId}
@@ -35,18 +35,18 @@ pub record IsTriedLane (parts setting : ℕ) (old new : LaneView) : Type 0 where
   pub mapped : All (IsMappedSo parts setting) new.texts
   pub used : (t : Leaf) → used_of t new.texts ≡ used_of t old.texts
 
--- The lane of this number brought those of the leaves that belong to it, and noted those that go.
+-- The lane of this number brought those of the leaves that belong to it, and noted those that leave.
 pub record IsBroughtLane (fresh gone : List Leaf) (lane : ℕ) (l : LaneView) : Type 0 where
   pub came : (t : Leaf) → came_of t l.texts ≡ of_lane lane t (times t fresh)
   pub went : (t : Leaf) → gone_of t l.texts ≡ of_lane lane t (times t gone)
 
--- The lane of this number got those of the leaves that belong to it, behind those that it had.
+-- The lane of this number got those of the leaves that belong to it, in addition to those that it had.
 pub record IsDealtLane (fresh : List InputView) (gone : List Leaf) (lane : ℕ) (old_fresh old_gone new_fresh new_gone : List InputView) : Type 0 where
   pub came : new_fresh ≡ old_fresh ++ goes_to lane fresh
   pub went : (t : Leaf) → times t (texts_of new_gone) ≡ times t (texts_of old_gone) + of_lane lane t (times t gone)
 
 module _ {J V M : Type 0} (m : Meaning V) (setting parts : ℕ) where
-  -- The lanes stand over these leaves, and may take a shift that brings those.
+  -- The lanes are over these leaves, and may take a shift that brings those.
   pub record MayBringAll (locks : List TableId) (leaves : List Leaf) (shift : Shift) (fresh : List InputView) (lanes : List (LaneSeat J V M)) : Type 0 where
     pub count : length lanes ≡ 16
     pub within : (1 ≤ parts) × (parts ≤ 16)
@@ -55,7 +55,7 @@ module _ {J V M : Type 0} (m : Meaning V) (setting parts : ℕ) where
     pub fits : FitsOld shift (length leaves)
     pub leave : (t : Leaf) → times t (left [] shift leaves) ≤ times t leaves
 
--- What the meters of the lanes counted: all together no more than the new texts among those that came.
+-- What the meters of the lanes counted: all together at most the cost of the new texts among those that came.
 pub record LanesCounted {V M : Type 0} (m : Meaning V) (counts : M → Counts) (leaves fresh : List Leaf) (old new : List M) : Type 0 where
   pub count : length new ≡ length old
   pub each : (i : ℕ) (d : M) → LaneRose (counts (slice_index_or old i d)) (counts (slice_index_or new i d))
@@ -63,7 +63,7 @@ pub record LanesCounted {V M : Type 0} (m : Meaning V) (counts : M → Counts) (
   pub joins : RoseWithin (sum_by (λ t. length (pairs_of m.emits t)) (new_texts (is_among leaves) fresh)) (sum_of (λ n. (counts n).joins) old) (sum_of (λ n. (counts n).joins) new)
 
 module _ {J T V M : Type 0} (view : T → TreeView V) (pins : T → List PinName) where
-  -- The seat of a part that may take the shift that brings so many leaves.
+  -- The seat of a part that may take the shift, which brings a number of leaves.
   pub record IsPartReady (setting : ℕ) (kind : Kind) (locks : List TableId) (shift : Shift) (news : ℕ) (s : PartSeat J T V M) : Type 0 where
     pub of : s.caller.locks ≡ locks
     pub covered : Covered s.caller (pins s.tree)
@@ -79,7 +79,7 @@ module _ {J T V M : Type 0} (view : T → TreeView V) (pins : T → List PinName
     pub inputs : AreMappedSo parts setting fresh
 
 module _ {V T : Type 0} (view : T → TreeView V) where
-  -- Whatever became of the draft, the leaves are as before, and the pins are covered.
+  -- With or without a draft, the leaves are unchanged, and the pins are covered.
   pub record IsTriedPart (pins : T → List PinName) (tree : T) (caller : CallerView) (tree_now : T) (caller_now : CallerView) : Type 0 where
     pub kept : reverted (view tree_now) ≡ view tree
     pub covered : Covered caller_now (pins tree_now)
@@ -98,7 +98,7 @@ module _ {V T : Type 0} (view : T → TreeView V) where
       pub counted : RoseBy 0 (bound tree shift) (bound tree shift * distinct_keys (shifted shift (map (part_table m parts part) fresh) (view tree).leaves.tables)) (counts before) (counts now)
       pub tightly : (view tree).leaves.loose ≡ false → (Met caller caller_now → ⊥) → RoseWithin (tight tree shift (map (part_table m parts part) fresh)) (counts before).merges (counts now).merges
 
-    -- What the meters of the parts counted. Those of no part are as before.
+    -- What the meters of the parts counted. Those of no part are unchanged.
     pub record PartsCounted {J : Type 0} (shift : Shift) (fresh : List Leaf) (seats seats_now : List (PartSeat J T V M)) (old new : List M) : Type 0 where
       pub others_stay : OthersStay parts old new
       pub each : (p : ℕ) (s t : PartSeat J T V M) (d e : M) → p < parts → PartCounted shift fresh p (slice_index_or seats p s).tree (slice_index_or seats p s).caller (slice_index_or seats_now p t).caller (slice_index_or old p d) (slice_index_or new p e)

@@ -22,7 +22,7 @@ use Rattle.run_engine.specs.Engines.{SeatView, EngineView, part_table}
 use Rattle.run_engine.specs.Sweeps.{SweptAll, SweptSome}
 
 module _ {J T : Type 0} where
-  -- One run more stands, over the window's leaves, and each collector swept at its horizon.
+  -- One more run is completed, over the window's leaves, and each collector swept at its horizon.
   pub record IsRun {V : Type 0} (view : T → TreeView V) (shaped : Shape → Shift → Shape) (w : WindowView) (old new : EngineView J T) : Type 0 where
     pub runs : new.runs ≡ old.runs + 1
     pub leaves : new.leaves ≡ w.window.leaves
@@ -31,7 +31,7 @@ module _ {J T : Type 0} where
     pub leaf_swept : SweptAll (horizon_of old.settings.keep new.runs) old.leaf_collector.caller new.leaf_collector.caller
     pub merge_swept : SweptAll (horizon_of old.settings.keep new.runs) old.merge_collector.caller new.merge_collector.caller
 
-  -- No run was made: the lanes hold the texts of before, and the trees stand over the leaves of before.
+  -- No run was made: the lanes hold the texts that they held, and the trees are over the leaves as before.
   pub record IsNoRun {V : Type 0} (view : T → TreeView V) (old new : EngineView J T) : Type 0 where
     pub runs : new.runs ≡ old.runs
     pub leaves : new.leaves ≡ old.leaves
@@ -46,7 +46,7 @@ module _ {J T : Type 0} where
     pub leaf_memo : new.leaf_memo ≡ old.leaf_memo
     pub merge_memo : new.merge_memo ≡ old.merge_memo
 
-  -- What any run leaves of the callers: their events stay, and more may stand behind them.
+  -- What any run keeps of the callers: their events stay, and more may come after them.
   pub record IsLaterEngine (old new : EngineView J T) : Type 0 where
     pub lanes : EachPair (λ k s t. IsLater s.caller t.caller) old.lanes new.lanes
     pub parts : EachPair (λ p s t. IsLater s.caller t.caller) old.parts new.parts
@@ -59,32 +59,33 @@ greatest [] = 0
 greatest (n ∷ ns) = max n (greatest ns)
 
 module _ {V M : Type 0} (counts : M → Counts) (m : Meaning V) where
-  -- What the meters of all lanes counted together: a map at the most for each new record, and a join for each pair that
-  -- the new records emit.
+  -- What the meters of all lanes counted together: at most a map for each new record, and a join for each pair that the
+  -- new records emit.
   pub record LanesWorked (old_leaves leaves : List Leaf) (old new : List M) : Type 0 where
     pub maps : RoseWithin (length (new_records old_leaves leaves)) (sum_of (λ n. (counts n).maps) old) (sum_of (λ n. (counts n).maps) new)
     pub joins : RoseWithin (length (pairs_of m.emits (new_records old_leaves leaves))) (sum_of (λ n. (counts n).joins) old) (sum_of (λ n. (counts n).joins) new)
 
   module _ {T : Type 0} (bound : ℕ → Shape → ℕ → Shift → ℕ) (tight : T → Shift → List (List (List ℕ × V)) → ℕ) (view : T → TreeView V) where
-    -- The most merges of a part in a run of a window with so many places, over as many leaves before it.
+    -- The most merges of a part in a run over a window of a number of places, with a number of leaves before the shift.
     abbrev pub part_bound : ℕ → ℕ → WindowView → SeatView T → ℕ
     part_bound places leaves w seat = bound places (view seat.tree).leaves.shape leaves (shift_of w)
 
-    -- What a part's meter counted, with its tree and its caller: merges up to the tree's bound, and joins up to as many for
-    -- each key of its part in the window; fewer merges where no node was loose and none became so by the memo's answers.
+    -- What a part's meter counted, with its tree and its caller: merges up to the tree's bound, and joins up to as many
+    -- for each key of its part in the window; fewer merges if no node was loose and none became loose by the memo's
+    -- answers.
     pub record PartWorked (parts places leaves : ℕ) (w : WindowView) (part : ℕ) (before now : M) (old new : SeatView T) : Type 0 where
       pub counted : RoseBy 0 (part_bound places leaves w old) (part_bound places leaves w old * distinct_keys (map (part_table m parts part) w.window.leaves)) (counts before) (counts now)
       pub tightly : (view old.tree).leaves.loose ≡ false → (Met old.caller new.caller → ⊥) → RoseWithin (tight old.tree (shift_of w) (map (part_table m parts part) (fresh_leaves w))) (counts before).merges (counts now).merges
       pub loose : (view new.tree).leaves.loose ≡ true → ((view old.tree).leaves.loose ≡ true) ⊎ Met old.caller new.caller
 
-    -- What the meters of the parts counted; those that belong to no part are as before. All together counted no more joins
-    -- than the greatest of the bounds for each key of the window.
+    -- What the meters of the parts counted; those that belong to no part are unchanged. All together counted no more
+    -- joins than the greatest of the bounds for each key of the window.
     pub record PartsWorked (parts places leaves : ℕ) (w : WindowView) (old new : List M) (seats seats_now : List (SeatView T)) : Type 0 where
       pub each : (p : ℕ) (d e : M) (s t : SeatView T) → p < parts → PartWorked parts places leaves w p (slice_index_or old p d) (slice_index_or new p e) (slice_index_or seats p s) (slice_index_or seats_now p t)
       pub others : (p : ℕ) (d : M) → parts ≤ p → slice_index_or new p d ≡ slice_index_or old p d
       pub joins : RoseWithin (greatest (map (part_bound places leaves w) seats) * length (keys_of (pairs_of m.emits (present w.window)))) (sum_of (λ n. (counts n).joins) old) (sum_of (λ n. (counts n).joins) new)
 
-    -- What a run does whatever it answers: what it leaves, what its meters counted, and what its collectors swept.
+    -- What a run does, whatever it returns: what it keeps, what its meters counted, and what its collectors swept.
     pub record RunWorked {J : Type 0} (w : WindowView) (meters meters_now : Row M) (old new : EngineView J T) : Type 0 where
       pub same : IsSameEngine old new
       pub later : IsLaterEngine old new

@@ -1,4 +1,4 @@
--- What the sweeps of a run leave among the events of a collector.
+-- What the sweeps of a run add to the events of a collector.
 use Rattle.std.specs.Prelude.{◌≡◌, ℕ, ◌<◌, ◌⊎◌, Bool, false, [], ◌∷◌, ◌++◌, length, Option, Some, None, Result, OnOk}
 use Rattle.memo_core.specs.declared.event.Event.TheVariants.{Sweep}
 use Rattle.pin_table.specs.Views.{CallerView, newcomer}
@@ -10,23 +10,23 @@ use Rattle.collector.specs.Collectors.{CollectorView}
 abbrev pub SweptOnce : ℕ → ℕ → CallerView → CallerView → Type 0
 SweptOnce s horizon old new = (dropped : ℕ) × ((known_at s new).mine ≡ (known_at s old).mine ++ Sweep old.number horizon dropped ∷ [])
 
--- It swept it once, or not at all where it was shown that the shard's lock is worn.
+-- It swept it once, or not at all if it was shown that the shard's lock is worn.
 abbrev pub SweptAt : ℕ → ℕ → CallerView → CallerView → Type 0
 SweptAt s horizon old new = SweptOnce s horizon old new ⊎ (((known_at s new).mine ≡ (known_at s old).mine) × IsWorn s new)
 
--- It swept it once at the most.
+-- It swept it at most once.
 abbrev pub SweptAtMost : ℕ → ℕ → CallerView → CallerView → Type 0
 SweptAtMost s horizon old new = SweptOnce s horizon old new ⊎ ((known_at s new).mine ≡ (known_at s old).mine)
 
--- It swept each shard so.
+-- It swept each shard in this way.
 abbrev pub SweptAll : ℕ → CallerView → CallerView → Type 0
 SweptAll horizon old new = (s : ℕ) → s < length old.locks → SweptAt s horizon old new
 
--- It swept each shard once at the most.
+-- It swept each shard at most once.
 abbrev pub SweptSome : ℕ → CallerView → CallerView → Type 0
 SweptSome horizon old new = (s : ℕ) → s < length old.locks → SweptAtMost s horizon old new
 
--- A collector swept one shard, or failed, and knows of the others what it knew.
+-- A collector swept one shard, or failed, and what it knows of the others is unchanged.
 pub record IsSweptAt {A E : Type 0} (horizon shard : ℕ) (old new : CollectorView) (result : Result A E) : Type 0 where
   pub keep : new.keep ≡ old.keep
   pub later : IsLater old.caller new.caller
@@ -41,7 +41,7 @@ pub record IsSwept (horizon : ℕ) (old new : CollectorView) (failed : Bool) : T
   pub all : failed ≡ false → SweptAll horizon old.caller new.caller
   pub some : SweptSome horizon old.caller new.caller
 
--- The collector, where there is one.
+-- The collector, if there is one.
 abbrev pub swept_by : Option CollectorView → CollectorView
 swept_by None = record { caller = newcomer [] 0; keep = 0 }
 swept_by (Some c) = c

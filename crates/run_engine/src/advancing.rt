@@ -1,4 +1,4 @@
-//! The second phase of a run: each part's tree takes the shift, on one board with the sweep of their memo.
+//! The second phase of a run: the tree of each part takes the shift, on one board with the sweep of the trees' memo.
 ghost use Rattle.std.specs.Prelude.{◌≡◌, ◌<◌, ◌≤◌, false, length, map, All, IsTrue, IsSome, OnOk, is_err, option_map, slice_index_or};
 ghost use Rattle.collector.specs.Collectors.{horizon_of};
 ghost use Rattle.job_laws.specs.Meanings.{meaning_of};
@@ -25,11 +25,11 @@ use std::sync::Wait;
 use std::thread::Threads;
 use tree_laws::{MergeRecipe, Tree};
 
-/// Hands the sheets of the leaves that came to the parts, and works all parts and the sweep.
+/// Gives the sheets of the leaves that came to the parts, and runs all parts and the sweep.
 ///
 /// # Errors
 ///
-/// Want of memory, before the board or in any task of it. Some of the trees may have a draft.
+/// Out of memory, before the board or in any task of it. Some of the trees may have a draft.
 pub(crate) fn take_shift<
     J: Job + Send + Sync,
     T: Tree<J> + Send,
@@ -68,7 +68,7 @@ where
     work_parts(rt, alloc, parts, sweep, meters, hands, gate, worker)
 }
 
-// Works all parts and the sweep on one board.
+// Runs all parts and the sweep on one board.
 fn work_parts<J: Job + Send + Sync, T: Tree<J> + Send, G: Gate, R: Threads + Wait + Sync>(
     rt: &R,
     alloc: Global,
@@ -111,7 +111,7 @@ where
     Err(AllocError)
 }
 
-// Whether no tree wanted memory.
+// Whether no tree ran out of memory.
 fn all_advanced<J: Job, T: Tree<J>>(parts: &Vec<PartSeat<J, T>>) -> bool
     ensures { IsTrue result → All (λ s. s.failed ≡ false) parts.now.items }
 {

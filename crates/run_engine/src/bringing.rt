@@ -24,11 +24,11 @@ use std::alloc::{AllocError, Global};
 use std::sync::Wait;
 use std::thread::Threads;
 
-/// Deals the leaves that came and those that go to their lanes, and works all lanes and the sweep.
+/// Deals the leaves that came and those that leave to their lanes, and runs all lanes and the sweep.
 ///
 /// # Errors
 ///
-/// Want of memory, before the board or in any task of it. The lanes may have brought some of the leaves.
+/// Out of memory, before the board or in any task of it. The lanes may have brought some of the leaves.
 pub(crate) fn bring_fresh<J: Job + Send + Sync, G: Gate, R: Threads + Wait + Sync>(
     rt: &R,
     alloc: Global,
@@ -61,7 +61,7 @@ where
     work_lanes(rt, alloc, lanes, sweep, meters, hands, gate, worker)
 }
 
-// Deals the leaves that came and those that go.
+// Deals the leaves that came and those that leave.
 fn deal_all<J: Job>(
     alloc: Global,
     lanes: &mut Vec<LaneSeat<J>>,
@@ -84,7 +84,7 @@ fn deal_all<J: Job>(
     deal_gone(lanes, &gone)
 }
 
-// Works all lanes and the sweep on one board.
+// Runs all lanes and the sweep on one board.
 fn work_lanes<J: Job + Send + Sync, G: Gate, R: Threads + Wait + Sync>(
     rt: &R,
     alloc: Global,
@@ -127,7 +127,7 @@ where
     Err(AllocError)
 }
 
-// Whether no lane wanted memory.
+// Whether no lane ran out of memory.
 fn all_brought<J: Job>(lanes: &Vec<LaneSeat<J>>) -> bool
     ensures { IsTrue result → All (λ s. s.failed ≡ false) lanes.now.items }
 {

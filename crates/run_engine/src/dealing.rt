@@ -1,4 +1,4 @@
-//! Which lane a leaf belongs to.
+//! Leaves are dealt to the lanes that they belong to.
 ghost use Rattle.std.specs.Prelude.{◌≡◌, ◌++◌, ◌∷◌, [], length, OnOk};
 ghost use Rattle.run_engine.specs.InPlace.{EachPair};
 ghost use Rattle.run_engine.specs.Inputs.{goes_to};
@@ -11,7 +11,8 @@ use std::alloc::AllocError;
 /// How many lanes there are, whatever the number of workers.
 pub(crate) const LANES: u32 = 16;
 
-/// Hands each of the leaves that come to its lane. They are shared, since a lane's lists go when the run ends.
+/// Deals each of the leaves that come to its lane. They are shared, since the lists of a lane are emptied when the run
+/// ends.
 pub(crate) fn deal_fresh<J: Job>(
     lanes: &mut Vec<LaneSeat<J>>,
     inputs: &Vec<LeafInput>,
@@ -28,7 +29,7 @@ pub(crate) fn deal_fresh<J: Job>(
     Ok(())
 }
 
-// Hands one leaf that comes to its lane.
+// Deals one leaf that comes to its lane.
 fn deal_one_fresh<J: Job>(lanes: &mut Vec<LaneSeat<J>>, input: &LeafInput) -> Result<(), AllocError>
     requires { length lanes.old.items ≡ 16 }
     ensures { EachPair (λ k s t. (t.lane ≡ s.lane) × (t.gone.items ≡ s.gone.items) × OnOk result (t.fresh.items ≡ s.fresh.items ++ goes_to k (input.now ∷ []))) lanes.old.items lanes.new.items }
@@ -44,7 +45,7 @@ fn deal_one_fresh<J: Job>(lanes: &mut Vec<LaneSeat<J>>, input: &LeafInput) -> Re
     }
 }
 
-/// Hands each of the leaves that go to its lane.
+/// Deals each of the leaves that leave to its lane.
 pub(crate) fn deal_gone<J: Job>(
     lanes: &mut Vec<LaneSeat<J>>,
     inputs: &Vec<LeafInput>,
@@ -61,7 +62,7 @@ pub(crate) fn deal_gone<J: Job>(
     Ok(())
 }
 
-// Hands one leaf that goes to its lane.
+// Deals one leaf that leaves to its lane.
 fn deal_one_gone<J: Job>(lanes: &mut Vec<LaneSeat<J>>, input: &LeafInput) -> Result<(), AllocError>
     requires { length lanes.old.items ≡ 16 }
     ensures { EachPair (λ k s t. (t.lane ≡ s.lane) × (t.fresh.items ≡ s.fresh.items) × OnOk result (t.gone.items ≡ s.gone.items ++ goes_to k (input.now ∷ []))) lanes.old.items lanes.new.items }

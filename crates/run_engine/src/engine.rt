@@ -1,4 +1,4 @@
-//! The engine: what stands from run to run, and one run.
+//! The engine: its state between runs, and one run.
 ghost use Rattle.std.specs.Prelude.{◌≡◌, ℕ, ◌+◌, ◌<◌, ◌≤◌, ◌^◌, All, IfOk, OnOk, OnErr, option_copied};
 ghost use Rattle.job_laws.specs.Meanings.{AllAccepted, meaning_of};
 ghost use Rattle.run_settings.specs.Settings.{AreWithin};
@@ -27,8 +27,8 @@ use std::thread::Threads;
 use tree_laws::{MergeRecipe, Tree};
 use window_manager::Window;
 
-/// Lanes that map leaves, a tree of merges for each part, and the two memos that they share with a collector each. Between
-/// two runs all stand over the leaves of the window at the last completed run.
+/// Lanes that map leaves, a tree of merges for each part, and two memos, which the lanes and the trees each share with
+/// a collector. Between runs all are over the leaves of the window at the last completed run.
 #[derive(Drop)]
 pub struct Engine<J: Job, T: Tree<J>> {
     alloc: Global,
@@ -41,7 +41,7 @@ pub struct Engine<J: Job, T: Tree<J>> {
     merge_memo: Memo<MergeRecipe<J>>,
     lanes: Vec<LaneSeat<J>>,
     parts: Vec<PartSeat<J, T>>,
-    // Each of them is away only while a board has it.
+    // `None` only while a board has it.
     leaf_sweep: Option<SweepSeat<MapRecipe<J>>>,
     merge_sweep: Option<SweepSeat<MergeRecipe<J>>>,
 }
@@ -61,7 +61,7 @@ impl<J: Job, T: Tree<J>> Model for Engine<J, T> {
 }
 
 impl<J: Job, T: Tree<J>> Engine<J, T> {
-    /// An engine before its first run. Both memos start at 0.
+    /// An engine before its first run. The locks of both memos start at 0.
     pub fn new(alloc: Global, job: J, settings: Settings) -> Result<Engine<J, T>, AllocError>
         requires settings { AreWithin settings }
         ensures { IfOk result (λ e. IsNewEngine J.Job T.view T.pins 0 job settings e) }
@@ -69,7 +69,7 @@ impl<J: Job, T: Tree<J>> Engine<J, T> {
         Engine::starting_at(alloc, 0, job, settings)
     }
 
-    /// The same, but every lock of both memos starts at `n`.
+    /// The same with every lock of both memos starting at `n`.
     pub fn starting_at(
         alloc: Global,
         n: u64,
@@ -107,14 +107,14 @@ impl<J: Job, T: Tree<J>> Engine<J, T> {
         })
     }
 
-    /// One run over a window whose shift is since the last completed run. The lanes and the leaf memo's sweep are worked on
-    /// one board, the parts and the merge memo's sweep on another, each task behind the gate; then all becomes final. It
-    /// costs the leaves that the shift names and the paths above them, and may wait for turns.
+    /// One run over a window whose shift leads on from the last completed run. The lanes and the leaf memo's sweep run
+    /// on one board, the parts and the merge memo's sweep on another, each task behind the gate; then everything
+    /// becomes final. It costs the leaves that the shift names and the paths above them. It may block.
     ///
     /// # Errors
     ///
-    /// Want of memory. Lanes and trees are reverted, so that all stands as before, and the run may be made again; events
-    /// of it stay in the memos' histories.
+    /// Out of memory. Lanes and trees are reverted, so that everything is unchanged, and the run may be made again; its
+    /// events stay in the memos' histories.
     pub fn run<G: Gate, R: Threads + Wait + Sync>(
         &mut self,
         rt: &R,
@@ -135,7 +135,7 @@ impl<J: Job, T: Tree<J>> Engine<J, T> {
         ensures ok { OnOk result (IsRun T.view T.shaped window.now self.old self.new) }
         ensures err { OnErr result (IsNoRun T.view self.old self.new) }
 
-        // Whatever it answers:
+        // Whatever it returns:
         ensures worked { RunWorked J.Meter.counts (meaning_of J.Job self.old.job) T.bound T.tight T.view window.now meters.old meters.new self.old self.new }
     {
         part_laws::<J>();
@@ -186,8 +186,8 @@ impl<J: Job, T: Tree<J>> Engine<J, T> {
         }
     }
 
-    /// The root of a part: the table of the records that belong to it, of the window at the last completed run. There is
-    /// none exactly where that window had no leaves. It takes no memory.
+    /// The root of a part: its table of the records of the window at the last completed run; `None` exactly if that
+    /// window had no leaves. It takes no memory.
     pub fn root(&self, part: u32) -> Option<&Sheet<J>>
         requires { part < self.now.settings.parts }
         ensures { IsAnswer (meaning_of J.Job self.now.job) (J.setting self.now.job) self.now.settings.parts part self.now.leaves (option_copied result) }

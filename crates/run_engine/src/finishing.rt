@@ -28,7 +28,7 @@ pub(crate) fn finish<J: Job, T: Tree<J>, W: Wait>(
     settle_parts(rt, merge_memo, parts);
 }
 
-/// Undoes a run, in all lanes and all trees, those that had succeeded too.
+/// Undoes a run, in all lanes and all trees, including those that succeeded.
 pub(crate) fn undo<J: Job, T: Tree<J>, W: Wait>(
     rt: &W,
     leaf_memo: &Memo<MapRecipe<J>>,
@@ -45,7 +45,7 @@ pub(crate) fn undo<J: Job, T: Tree<J>, W: Wait>(
     revert_parts(rt, merge_memo, parts);
 }
 
-// Makes what came and went in each lane final.
+// Makes the notes of each lane final.
 fn settle_lanes<J: Job, W: Wait>(rt: &W, memo: &Memo<MapRecipe<J>>, lanes: &mut Vec<LaneSeat<J>>)
     requires { All (λ s. s.lane.caller.locks ≡ memo.now.locks) lanes.old.items }
     ensures { EachPair (λ k s t. SettlesLane s.lane t.lane t.fresh.items t.gone.items) lanes.old.items lanes.new.items }
@@ -58,7 +58,7 @@ fn settle_lanes<J: Job, W: Wait>(rt: &W, memo: &Memo<MapRecipe<J>>, lanes: &mut 
     }
 }
 
-// Undoes what came and went in each lane.
+// Undoes the notes of each lane.
 fn revert_lanes<J: Job, W: Wait>(rt: &W, memo: &Memo<MapRecipe<J>>, lanes: &mut Vec<LaneSeat<J>>)
     requires { All (λ s. s.lane.caller.locks ≡ memo.now.locks) lanes.old.items }
     ensures { EachPair (λ k s t. RevertsLane s.lane t.lane t.fresh.items t.gone.items) lanes.old.items lanes.new.items }
@@ -87,7 +87,7 @@ fn settle_parts<J: Job, T: Tree<J>, W: Wait>(
     }
 }
 
-// Drops the drafts of all trees, where they have one.
+// Drops the drafts of all trees, if they have one.
 fn revert_parts<J: Job, T: Tree<J>, W: Wait>(
     rt: &W,
     memo: &Memo<MergeRecipe<J>>,

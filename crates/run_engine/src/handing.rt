@@ -1,4 +1,4 @@
-//! How the sheets of the leaves that came go from the lanes to the parts.
+//! The sheets of the leaves that came go from the lanes to the parts.
 ghost use Rattle.std.specs.Prelude.{◌≡◌, ◌+◌, ◌≤◌, ◌++◌, length, map, OnOk};
 ghost use Rattle.map_tasks.specs.Leaves.{sheet_for};
 ghost use Rattle.run_engine.specs.InPlace.{EachPair};

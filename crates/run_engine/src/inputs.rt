@@ -1,5 +1,5 @@
-//! The leaves that a shift brings and takes away, as inputs of lanes. No text is copied, and a text is hashed where its
-//! leaf comes, and never again.
+//! The leaves that a shift brings and takes away, as inputs of lanes. No text is copied; a text is hashed once, when
+//! its leaf comes.
 ghost use Rattle.std.specs.Prelude.{◌≡◌, ◌+◌, ◌-◌, ◌<◌, ◌≤◌, [], ◌++◌, length, map, take, drop, vec_len, vec_capacity, All, IfOk, OnOk, slice_index_or};
 ghost use Rattle.record_text.specs.Shifts.{left};
 ghost use Rattle.window_manager.specs.Since.{fresh_leaves};
@@ -10,7 +10,7 @@ use record_text::{Places, Shift};
 use std::alloc::{AllocError, Global};
 use window_manager::Window;
 
-/// The leaves that the window's shift brings, those at its places first, with room for them behind these leaves.
+/// The leaves that the window's shift brings, those at its places first. Makes room for them after the present ones.
 pub(crate) fn fresh_for(
     alloc: Global,
     window: &Window,
@@ -145,7 +145,7 @@ fn share_span(
     Ok(())
 }
 
-// Adds the leaves at these places behind a place, shared.
+// Adds the leaves at these places after a place, shared.
 fn share_places(
     leaves: &Vec<LeafInput>,
     behind: usize,

@@ -1,8 +1,8 @@
-//! What a lane's task is worked on.
+//! The data of a lane's task.
 use job_laws::Job;
 use map_tasks::{Lane, LeafInput};
 
-/// A lane with the leaves that it is to bring, those that go, and whether memory was wanting.
+/// A lane with the leaves to bring, the leaves that leave, and whether memory ran out.
 #[derive(Drop)]
 pub(crate) struct LaneSeat<J: Job> {
     pub lane: Lane<J>,

@@ -1,4 +1,4 @@
-//! How a lane's task is worked: the leaves that came are brought, and then those that go are noted.
+//! A lane's task: it brings the leaves that came, then notes those that leave.
 ghost use Rattle.std.specs.Prelude.{◌≡◌, ◌<◌, ◌≤◌, ℕ, [], length, All, OnOk};
 ghost use Rattle.collector.specs.Collectors.{horizon_of};
 ghost use Rattle.job_laws.specs.Meanings.{meaning_of};
@@ -15,7 +15,7 @@ use std::sync::Wait;
 use std::thread::Threads;
 use worker_claims::Worker;
 
-/// Works lanes, and the sweep of their memo, for one run.
+/// Does the tasks of lanes, and the sweep of their memo, for one run.
 #[derive(Drop)]
 pub(crate) struct LaneWorker<'a, J: Job> {
     pub memo: &'a Memo<MapRecipe<J>>,
@@ -60,7 +60,7 @@ where
     }
 }
 
-// Brings the leaves that came and notes those that go. Where memory is wanting nothing is noted.
+// Brings the leaves that came and notes those that leave. Out of memory, nothing is noted.
 fn work_lane<J: Job, W: Wait>(
     rt: &W,
     worker: &LaneWorker<'_, J>,
@@ -103,7 +103,7 @@ fn bring_each<J: Job, W: Wait>(
     Ok(())
 }
 
-// Notes that each of these leaves goes.
+// Notes the departure of each of these leaves.
 fn leave_each<J: Job>(lane: &mut Lane<J>, gone: &Vec<LeafInput>)
     requires { MayLeave lane.old gone.now.items }
     ensures { IsLeftBy gone.now.items lane.old lane.new }

@@ -1,8 +1,9 @@
-//! One run of a window: lanes map the leaves that came, a tree for each part merges them, and both memos are swept beside it.
+//! One run over a window: lanes map the leaves that came, a tree for each part merges them, and both memos are swept
+//! meanwhile.
 //!
-//! Start at [`Engine`], whose `run` brings the window's changes in and whose `root` answers the table of a part. A run
-//! costs the leaves that the window's shift names and the trees' changed paths. It copies no text, and of the leaves that
-//! stayed it moves the list's machine words alone. Where memory is wanting a run leaves no trace but the memos' events.
+//! Start at [`Engine`], whose `run` brings the window's changes in and whose `root` returns the table of a part. A run
+//! costs the leaves that the window's shift names and the trees' changed paths. It copies no text, and of the leaves
+//! that stay it only moves list entries. Out of memory, a run changes only the memos' histories.
 #![tactic(auto)]
 
 mod advancing;

@@ -1,4 +1,4 @@
-//! How the lanes, the parts and the collectors of a new engine are made of the callers of its memos.
+//! The lanes, parts and collectors of a new engine are made from the callers of its memos.
 ghost use Rattle.std.specs.Prelude.{◌≡◌, ℕ, ◌<◌, ◌≤◌, [], ◌∷◌, ◌++◌, map, vec_len, All, IfOk};
 ghost use Rattle.pin_table.specs.Known.{known_at};
 ghost use Rattle.tree_laws.specs.Trees.{bare};
@@ -15,7 +15,7 @@ use pin_table::Caller;
 use std::alloc::{AllocError, Global};
 use tree_laws::{MergeRecipe, Tree};
 
-/// The collector of the last caller, which is no lane's and no part's.
+/// The collector of the last caller, which belongs to no lane and no part.
 pub(crate) fn last_sweep<R: Recipe>(callers: &mut Vec<Caller<R>>, keep: u32) -> SweepSeat<R>
     requires { 0 < vec_len callers.old }
     ensures caller { callers.old.items ≡ callers.new.items ++ result.collector.caller ∷ [] }

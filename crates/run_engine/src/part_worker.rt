@@ -1,4 +1,4 @@
-//! How a part's task is worked: its tree takes the shift with the sheets of the leaves that came.
+//! A part's task: its tree takes the shift with the sheets of the leaves that came.
 ghost use Rattle.std.specs.Prelude.{◌≡◌};
 ghost use Rattle.tree_laws.specs.Trees.{bound_of};
 ghost use Rattle.run_engine.specs.PartTasks.{IsReadyPart, IsAdvancedPart};
@@ -15,7 +15,7 @@ use std::thread::Threads;
 use tree_laws::{MergeRecipe, Tree};
 use worker_claims::Worker;
 
-/// Works parts, and the sweep of their memo, for one run.
+/// Does the tasks of parts, and the sweep of their memo, for one run.
 #[derive(Drop)]
 pub(crate) struct PartWorker<'a, J: Job> {
     pub alloc: Global,
@@ -61,7 +61,7 @@ where
     }
 }
 
-// Has the tree take the shift as its draft.
+// Makes the tree's draft for the shift.
 fn advance_part<J: Job, T: Tree<J>, W: Wait>(
     rt: &W,
     worker: &PartWorker<'_, J>,

@@ -1,4 +1,4 @@
-//! Boards with a row of tasks, each with its meter, and a last task. They are packed when a board begins, and stand in
+//! Boards with a row of tasks, each with its meter, and a last task. They are packed when a board begins, and are at
 //! their places again when it ends.
 ghost use Rattle.std.specs.Prelude.{◌≡◌, ℕ, ◌+◌, ◌<◌, ◌≤◌, ◌^◌, [], drop, length, vec_len, vec_capacity, OnOk, OnErr};
 ghost use Rattle.worker_claims.specs.Hands.{gated};
@@ -12,7 +12,7 @@ use std::sync::Wait;
 use std::thread::Threads;
 use worker_claims::{Worker, work_all};
 
-// The row of these, in order, with the last task at its end. Meters that no item has stay where they are.
+// Packs these into a row, in order, with the last task at its end. Meters without an item stay where they are.
 fn packed<A: Drop, M: Drop, B: Drop>(
     mut row: Vec<Task<A, M, B>>,
     items: &mut Vec<A>,
@@ -37,7 +37,7 @@ fn packed<A: Drop, M: Drop, B: Drop>(
     row
 }
 
-// What is in a row, in its place again.
+// Unpacks a row, so that everything is at its place again.
 fn unpacked<A: Drop, M: Drop, B: Drop>(
     mut row: Vec<Task<A, M, B>>,
     items: &mut Vec<A>,
@@ -72,8 +72,8 @@ fn unpacked<A: Drop, M: Drop, B: Drop>(
     last
 }
 
-/// Works each of the row and the last task once, on one board. All that it needs is taken before: on want of memory
-/// nothing was worked. Whatever it answers, all stand in their places.
+/// Does each task of the row and the last task once, on one board. All memory is taken before: if it runs out, nothing
+/// was done. Whatever it returns, everything is at its place.
 pub(crate) fn work_row<
     A: Send + Drop,
     M: Send + Drop,

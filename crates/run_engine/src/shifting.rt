@@ -1,11 +1,11 @@
-//! A list shifted in place. It takes no memory, and moves each item at most twice.
+//! Lists are shifted in place, without memory; each item is moved at most twice.
 ghost use Rattle.std.specs.Prelude.{◌≡◌, ◌+◌, ◌<◌, ◌≤◌, ◌++◌, length, drop, vec_len, vec_capacity, All};
 ghost use Rattle.record_text.specs.Shifts.{shifted, put_at, first_after};
 ghost use Rattle.run_engine.specs.Inputs.{FitsList};
 
 use record_text::{Places, Shift};
 
-/// The number of the first leaf after a shift, of its number before.
+/// The number of the first leaf after a shift, from the number before it.
 pub(crate) fn first_of(shift: &Shift, first: u64) -> u64
     ensures { result ≡ first_after shift.now first }
 {
@@ -24,7 +24,7 @@ pub(crate) fn first_of(shift: &Shift, first: u64) -> u64
     }
 }
 
-/// Makes the shift of a list whose room has been taken before.
+/// Shifts a list, for which room was reserved before.
 pub(crate) fn shift_items<X: Drop>(items: &mut Vec<X>, shift: &Shift, fresh: Vec<X>)
     requires fits { FitsList shift.now (vec_len items.old) (vec_len fresh) }
     requires room { vec_len items.old + vec_len fresh ≤ vec_capacity items.old }
@@ -57,7 +57,7 @@ pub(crate) fn shift_items<X: Drop>(items: &mut Vec<X>, shift: &Shift, fresh: Vec
     }
 }
 
-// Takes the first items away.
+// Removes the first items.
 fn remove_first<X: Drop>(items: &mut Vec<X>, count: usize)
     requires { count ≤ vec_len items.old }
     ensures items { items.new.items ≡ drop count items.old.items }
@@ -68,7 +68,7 @@ fn remove_first<X: Drop>(items: &mut Vec<X>, count: usize)
     items.truncate(rest);
 }
 
-// Puts the first of the fresh items in the places, and answers the others.
+// Puts the first of the fresh items in the places, and returns the others.
 fn put_each<X: Drop>(items: &mut Vec<X>, places: &Places, mut fresh: Vec<X>) -> Vec<X>
     requires within { All (λ p. p < vec_len items.old) places.now }
     requires enough { length places.now ≤ vec_len fresh }
@@ -87,7 +87,7 @@ fn put_each<X: Drop>(items: &mut Vec<X>, places: &Places, mut fresh: Vec<X>) -> 
     fresh
 }
 
-// Adds these items behind the others, for which there is room.
+// Adds these items after the others, for which there is room.
 fn append_all<X: Drop>(items: &mut Vec<X>, mut more: Vec<X>)
     requires { vec_len items.old + vec_len more ≤ vec_capacity items.old }
     ensures { items.new.items ≡ items.old.items ++ more.items }

@@ -1,4 +1,4 @@
-//! What the last task of a board is worked on: a collector that sweeps every shard of its memo.
+//! The data of a board's last task: a collector, which sweeps every shard of its memo.
 ghost use Rattle.std.specs.Prelude.{◌≡◌, ◌<◌, length};
 ghost use Rattle.collector.specs.Collectors.{horizon_of};
 ghost use Rattle.run_engine.specs.Sweeps.{IsSwept, IsSweptAt};
@@ -9,14 +9,14 @@ use pin_table::{Memo, MemoFault};
 use std::alloc::AllocError;
 use std::sync::Wait;
 
-/// A collector, and whether memory was wanting.
+/// A collector, and whether memory ran out.
 #[derive(Drop)]
 pub(crate) struct SweepSeat<R: Recipe> {
     pub collector: Collector<R>,
     pub failed: bool,
 }
 
-/// Sweeps each shard in order at the horizon of the run. A shard whose lock is worn is left as it is.
+/// Sweeps each shard in order at the horizon of the run. A shard whose lock is worn is left unchanged.
 pub(crate) fn sweep_all<R: Recipe, W: Wait>(
     rt: &W,
     memo: &Memo<R>,

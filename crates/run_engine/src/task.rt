@@ -3,8 +3,8 @@
 /// One task.
 #[derive(Drop)]
 pub(crate) enum Task<A, M, B> {
-    /// One of the row, with the meter that it counts on.
+    /// A task of the row, with the meter on which it counts.
     Work(A, M),
-    /// The last one.
+    /// The last task.
     Sweep(B),
 }

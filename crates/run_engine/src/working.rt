@@ -29,12 +29,12 @@ use std::thread::Threads;
 use tree_laws::{MergeRecipe, Tree};
 use window_manager::Window;
 
-/// Has the lanes bring the leaves that came, and the trees take the shift as their drafts. It answers the inputs of these
-/// leaves, for which there is room behind the others.
+/// Runs the lanes, which bring the leaves that came, then the trees, which take the shift as their drafts. It returns
+/// the inputs of these leaves, for which it made room after the others.
 ///
 /// # Errors
 ///
-/// Want of memory. Some of the lanes and trees may have done their part.
+/// Out of memory. Some of the lanes and trees may have done their task.
 pub(crate) fn work_phases<
     J: Job + Send + Sync,
     T: Tree<J> + Send,

@@ -3,7 +3,7 @@ use Rattle.std.specs.Prelude.{ℕ, ◌≤◌}
 use Rattle.definitions.specs.Limits.{most_parts, most_places}
 use Rattle.run_settings.specs.declared.settings.Settings.{Settings}
 
--- The tasks that may be worked at the same time.
+-- The tasks that may be done at the same time.
 abbrev pub most_workers : ℕ
 most_workers = 16
 
@@ -11,7 +11,7 @@ most_workers = 16
 abbrev pub most_shards : ℕ
 most_shards = 8
 
--- The runs for which a memo keeps what no run uses.
+-- The runs for which a memo keeps what nothing uses.
 abbrev pub most_keep : ℕ
 most_keep = 1000
 

@@ -1,5 +1,5 @@
-//! How a script is worked: the numbers that a program is told beside the script, each with its limits. Start at
-//! [`Settings`], whose default is what a program does that is told nothing.
+//! How a script is processed: the numbers that a program is given along with it, each with its limits. Start at
+//! [`Settings`], whose default holds if nothing is given.
 #![tactic(auto)]
 
 mod settings;

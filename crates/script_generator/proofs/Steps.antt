@@ -1,4 +1,4 @@
--- A step so many times, and round after round.
+-- A step n times, and round after round.
 use Rattle.std.proofs.Common.{◌≡◌, ℕ, ◌+◌, ◌*◌, ◌%◌, ◌^◌, refl, sym, ap, ◌∙◌, add-one}
 use Rattle.std.proofs.Math.Nat.{mod-add-mod}
 use Rattle.program_words.specs.declared.plan.JobName.{JobName}

@@ -11,8 +11,8 @@ pub const MULTIPLIER: u64 = 6364136223846793005;
 /// What is added to the product: the increment of the same generator.
 pub const INCREMENT: u64 = 1442695040888963407;
 
-/// A linear congruential generator modulo 2^64. A draw takes a step and gives the upper 31 bits of the new state, since the
-/// lower bits of such a generator have short periods. It is no source for secrets. It is seen as its state.
+/// A linear congruential generator modulo 2^64, modelled by its state. A draw takes a step and gives the upper 31 bits
+/// of the new state, since the lower bits of such a generator have short periods. Do not use it for secrets.
 #[derive(Drop)]
 pub struct Draws {
     state: u64,
@@ -27,14 +27,15 @@ impl Model for Draws {
 }
 
 impl Draws {
-    /// The draws from a first state on, which is not itself drawn.
+    /// The draws that follow a state.
     pub fn new(state: u64) -> Draws
         ensures { result ≡ state }
     {
         Draws { state }
     }
 
-    /// The next number, below `limit`. Below 2^31 the numbers are nearly even: their chances differ by one in 2^31.
+    /// The next number, below `limit`. For a limit below 2^31 numbers are nearly equally likely: their chances differ
+    /// by one in 2^31.
     #[tactic(auto, using(crate::proofs::Steps::next_is), unfolding(crate::specs::Draws::drawn))]
     pub fn draw(&mut self, limit: u64) -> u64
         requires { 0 < limit }

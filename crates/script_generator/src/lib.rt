@@ -1,6 +1,6 @@
-//! Scripts made from a number, to try the program on a large input. Start at [`generate`]: it writes the script of a job and
-//! a tree into one vector, in one pass. `specs/Generated.antt` says which script; [`Draws`] are its pseudo-random numbers.
-//! Equal numbers give equal scripts on every machine. It reads nothing, and takes no memory but the script's.
+//! Scripts made from a number, to try the program on a large input. Start at [`generate`], which writes the script of a
+//! job and a tree into one vector, in one pass. `specs/Generated.antt` says which script; [`Draws`] are its
+//! pseudo-random numbers. Equal numbers give equal scripts on every machine. Only the script takes memory.
 #![tactic(auto)]
 
 mod draws;

@@ -6,10 +6,10 @@ use crate::writer::Writer;
 use program_words::{JobName, Plan, TreeName};
 use std::alloc::{AllocError, Global};
 
-/// The script that a plan's job and tree have, made from `seed`; nothing else of the plan counts. For a random tree it loads
-/// a document of 40,000 records and edits 20 of them 39 times, with a run after each command. For the other trees it has 40
-/// buckets of 2,000 records, with a run after each; a folding tree drops its oldest bucket before each one behind the 24th.
-/// The script has 0.5 to 4.2 million bytes, and the time is that of writing them.
+/// The script for a plan's job and tree, made from `seed`; nothing else of the plan matters. For a random tree it loads
+/// a document of 40,000 records, then edits 20 of them 39 times, with a run after each command. For the other trees it
+/// has 40 buckets of 2,000 records, with a run after each; for a folding tree it drops the oldest bucket before each
+/// one after the 24th. The script has 0.5 to 4.2 million bytes.
 #[tactic(auto, unfolding(crate::specs::Generated::generated))]
 pub fn generate(alloc: Global, plan: &Plan, seed: u32) -> Result<Vec<u8>, AllocError>
     ensures { IfOk result (λ script. script.items ≡ generated plan.now.job plan.now.tree seed) }

@@ -1,4 +1,4 @@
-//! The scripts against those that a Python program wrote by the rules of `docs/formats/generator.md`.
+//! The scripts compared with those that a Python program wrote by the rules of `docs/formats/generator.md`.
 use crate::{Draws, generate};
 use program_words::{JobName, Plan, TreeName};
 use run_settings::Settings;

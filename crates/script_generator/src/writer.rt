@@ -8,8 +8,8 @@ use program_words::JobName;
 use std::alloc::{AllocError, Global};
 use std::marker::Model;
 
-/// What is written of a script, the draws behind it, and how many records it has. After an `Err` it has some prefix of the
-/// piece, and is of no use.
+/// The script written so far, the draws that follow, and the number of its records. After an `Err` it has some prefix
+/// of a piece, and must not be used.
 #[derive(Drop)]
 pub(crate) struct Writer {
     text: Vec<u8>,
@@ -29,7 +29,7 @@ impl Model for Writer {
 }
 
 impl Writer {
-    /// Nothing is written yet. It takes no memory.
+    /// A writer without a script yet. It takes no memory.
     pub(crate) fn new(alloc: Global, seed: u32) -> Writer
         ensures { result ≡ blank seed }
     {
@@ -54,7 +54,7 @@ impl Writer {
         self.text.extend_from_slice(bytes)
     }
 
-    /// Writes how many records there are before.
+    /// Writes the number of records written so far.
     fn number_of_record(&mut self) -> Result<(), AllocError>
         ensures { OnOk result (self.new ≡ with_bytes (decimal self.old.records) self.old) }
     {
@@ -72,7 +72,7 @@ impl Writer {
             .extend_from_slice(Buffer::new().format(number).as_bytes())
     }
 
-    /// Writes bytes and a drawn number behind them.
+    /// Writes bytes and a drawn number after them.
     #[tactic(auto, unfolding(crate::specs::Generated::with_field))]
     pub(crate) fn field(&mut self, prefix: &[u8], limit: u64) -> Result<(), AllocError>
         requires { 0 < limit }

@@ -19,7 +19,7 @@ module _ {A : Type 0} where
   there (x ∷ xs) zero h = (x, refl)
   there (x ∷ xs) (suc i) h = there xs i (omega arith)
 
-  -- What stands in one place is one thing.
+  -- A place has only one item.
   pub same_at : (l : List A) (j k : ℕ) (a b : A) → get_elem? l j ≡ some a → get_elem? l k ≡ some b → j ≡ k → a ≡ b
   same_at l j k a b p q e = some-injective a b (sym p ∙ (ap (get_elem? l) e ∙ q))
 
@@ -53,7 +53,7 @@ module _ {A : Type 0} where
   pub from_all : (P : A → Type 0) (l : List A) → ((k : ℕ) → k < length l → (a : A) × (get_elem? l k ≡ some a) × P a) → All P l
   from_all P l h k d lt = let q = h k lt in subst P (sym (get_at l k q.0 d q.1)) q.2
 
-  -- What holds of all holds of all but the last, and of the last.
+  -- What holds of all items holds of all but the last, and of the last.
   pub prefix_all : (P : A → Type 0) (all prefix : List A) (y : A) → all ≡ prefix ++ y ∷ [] → All P all → All P prefix
   prefix_all P all prefix y e h k d lt = subst P (ap (λ (l : List A). get_or l k d) e ∙ get_or_append_left prefix (y ∷ []) d k lt) (h k d (let l : length all ≡ length prefix + 1 = ap length e ∙ length-append prefix (y ∷ []) in omega arith))
 

@@ -1,4 +1,4 @@
--- What stands where once a seat was divided, or two were joined.
+-- Which view is at which place after a seat is divided, or two are joined.
 use Rattle.std.proofs.Common.{◌≡◌, ◌≢◌, ℕ, ◌+◌, List, [], ◌∷◌, length, length-append, length-set, set, sym, ap, subst, ◌∙◌, ⊎_elim, arith}
 use mathlib.Core.Option.{some}
 use lib.ListN.{get_elem?}

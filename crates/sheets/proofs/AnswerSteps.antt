@@ -56,7 +56,7 @@ module _ {V : Type 0} where
   tail_rises : (e : List ℕ × V) (t : List (List ℕ × V)) → IsRising (e ∷ t) → IsRising t
   tail_rises e t r = is_true _ (second _ _ (passes _ r))
 
-  -- what is left where the first entry of one table was taken
+  -- what is left after the first entry of one table was taken
   pub record Left (good : V → Type 0) (ts : List (List (List ℕ × V))) (i : ℕ) (e : List ℕ × V) (t : List (List ℕ × V)) : Type 0 where
     pub union : united ts ≡ e ∷ united (slice_set ts i t)
     pub rising : All IsRising (slice_set ts i t)
@@ -95,7 +95,7 @@ module _ {V : Type 0} where
                 ap (λ l. is_some (value_at l key)) (sym (get_or-set_other ts i j t [] differ)) ∙ s
           ] refl
 
-  -- what stands at a place, whatever is asked for outside
+  -- what is at a place, whatever the default is
   pub at_place : (ts : List (List (List ℕ × V))) (i : ℕ) (t : List (List ℕ × V)) → i < length ts → t ≡ slice_index_or ts i t → slice_index_or ts i [] ≡ t
   at_place [] i t h is = absurd (omega arith)
   at_place (u ∷ ts) zero t h is = sym is

@@ -18,7 +18,7 @@ ties_itself k = own_reverse (key_cmp k k) (nat_list_cmp_total.antisymm k k)
     own_reverse Greater h = cc
 
 module _ {V : Type 0} where
-  -- entries of one key are equal where their values are
+  -- entries of one key are equal if their values are
   pub same_pair : (e f : List ℕ × V) (b : Bool) → Equal ≡ key_cmp e.0 f.0 → IsTrue b ↔ (e.1 ≡ f.1) → IsTrue b ↔ (e ≡ f)
   same_pair e f b order same =
       let keys : e.0 ≡ f.0 = tied_keys e.0 f.0 (ap is_eq (sym order)) in

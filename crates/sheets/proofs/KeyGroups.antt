@@ -17,7 +17,7 @@ use Rattle.definitions.specs.Tables.{key_cmp, IsRising, IsKey, HasKeys, HasGoodV
 use Rattle.definitions.proofs.TableLaws.{tied_keys, eq_itself, turned, is_less, is_true, first, both, below_chain, value_at-table, good-table, good-value_at, reduced_push}
 use Rattle.sheets.specs.Groups.{shown}
 
--- keys are equal by bytes where they tie
+-- keys are equal by bytes if they tie
 same_key : (q k : List ℕ) → pointwise nat_eq q k ≡ eq_by_cmp key_cmp q k
 same_key q k = lists_ties nat_cmp unsigned_ties q k
 
@@ -75,7 +75,7 @@ module _ {V : Type 0} where
   good_take good (suc n) [] g = tt
   good_take good (suc n) (p ∷ ps) g = (g.0, good_take good n ps g.1)
 
-  -- what good pairs reduce to is good
+  -- what good pairs reduce to be good
   pub good_reduced : {good : V → Type 0} {join : V → V → V} → IsGoodJoin good join → (ps : List (List ℕ × V)) (n : ℕ) → HasGoodValues good ps → (q : List ℕ) (v : V) → reduced join (take n ps) q ≡ Some v → good v
   good_reduced {good = good} {join = join} laws ps n g q v is = good-value_at good (table_of join (take n ps)) q v (good-table laws (take n ps) (good_take good n ps g)) (value_at-table join (take n ps) q ∙ is)
 
@@ -96,7 +96,7 @@ module _ {V : Type 0} where
       by q v is true tied = h q e.1 (rw tied refl)
       by q v is false tied = h q v (rw tied is)
 
-  -- what stands with each key after one more pair
+  -- the value of each key after one more pair
   pub found_more : (join : V → V → V) (es fs ps : List (List ℕ × V)) (i : ℕ) (p : List ℕ × V) → i < length ps → slice_get ps i ≡ Some p → ((q : List ℕ) → value_at es q ≡ reduced join (take i ps) q)
       → ((q : List ℕ) → value_at fs q ≡ cond (eq_by_cmp key_cmp q p.0) (joined_found join (value_at es q) (Some p.1)) (value_at es q))
       → (q : List ℕ) → value_at fs q ≡ reduced join (take (i + 1) ps) q

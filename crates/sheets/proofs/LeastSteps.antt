@@ -33,7 +33,7 @@ module _ {V : Type 0} (ts : List (List (List ℕ × V))) (i : ℕ) where
         | false ↦ λ other. let less : j < i = grind (arith, nat_tests) in before j less
       ] refl
 
-  -- a table without entries changes nothing
+  -- a table without entries is skipped
   none-skipped : slice_index_or ts i [] ≡ [] → BestIs ts i None → BestIs ts (i + 1) None
   none-skipped empty best = up_to (λ j. slice_index_or ts j [] ≡ []) best empty
 

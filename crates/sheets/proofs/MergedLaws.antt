@@ -1,4 +1,4 @@
--- What merging from the head makes of the tables of two sheets.
+-- Merging the tables of two sheets from the head.
 use Rattle.std.proofs.Common.{◌≡◌, ℕ, List, sym, subst, ◌∙◌}
 use Rattle.definitions.specs.Tables.{IsRising, HasGoodValues, IsGoodJoin, merged, merge_in_order, common_keys}
 use Rattle.definitions.proofs.TableLaws.{IsRising-merged, good-merged}

@@ -90,7 +90,7 @@ module _ {V : Type 0} (parts : ℕ) where
       below : (q : List ℕ) → length lists ≡ parts → part_number q parts < 0 + length lists
       below q n = grind (arith, nat_tests)
 
-  -- of the sheets of all parts: no key stands in two, and their union is the table
+  -- of the sheets of all parts: no key is in two, and their union is the table
   pub sheets-parts : (setting : ℕ) (t : List (List ℕ × V)) (sheets : List (SheetOf V)) → AreSheets setting parts t sheets → HasParts parts t (tables_of sheets)
   sheets-parts setting t sheets are = record {
     count = length-map sheets (λ s. s.entries) ∙ are.count;

@@ -1,10 +1,10 @@
--- How counts rise where tables are merged.
+-- How counts increase when tables are merged.
 use Rattle.std.proofs.Common.{◌≡◌, ℕ, ◌+◌, ◌≤◌, arith}
 use Rattle.job_laws.specs.declared.meter.Counts.{Counts}
 use Rattle.job_laws.specs.Counted.{one_merge, RoseBy}
 use Rattle.job_laws.proofs.CountLaws.{rose_merge, rose_then, rose_more}
 
--- where maps and merges stayed, only the joins are counted
+-- if maps and merges stayed, only the joins are counted
 pub rose_joins : (n : ℕ) (x y : Counts) → y.maps ≡ x.maps → y.merges ≡ x.merges → x.joins ≤ y.joins → y.joins ≤ x.joins + n → RoseBy 0 0 n x y
 rose_joins n x y maps merges least most = record {
   maps = (omega (arith, maps), omega (arith, maps));

@@ -1,4 +1,4 @@
--- The keys that tie where rising lists are merged are those that stand in both.
+-- The keys that tie when rising lists are merged are those that both have.
 use Rattle.std.proofs.Common.{◌≡◌, ℕ, ◌+◌, true, false, cond, List, [], ◌∷◌, Option, Some, None, refl, sym, ap, ◌∙◌, subst}
 use Rattle.std.specs.Ordering.{eq_by_cmp, is_eq, is_lt}
 use Rattle.std.specs.FinMap.Entries.{is_sorted, below_all, by_order}

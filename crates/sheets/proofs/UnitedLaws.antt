@@ -61,7 +61,7 @@ module _ {V : Type 0} where
   none_is None h = refl
   none_is (Some v) h = cc
 
-  -- the value at a key where the first entry of one table is put before all
+  -- the value at a key after the first entry of one table is put before all
   takes : (ts : List (List (List ℕ × V))) (i : ℕ) (e : List ℕ × V) (t : List (List ℕ × V)) → i < length ts → slice_index_or ts i [] ≡ e ∷ t → ((j : ℕ) → j < i → is_some (value_at (slice_index_or ts j []) e.0) ≡ false) → (q : List ℕ) → value_at (end_to_end ts) q ≡ cond (eq_by_cmp key_cmp q e.0) (Some e.1) (value_at (end_to_end (slice_set ts i t)) q)
   takes [] i e t h is none q = absurd (omega arith)
   takes (u ∷ ts) zero e t h is none q = ap (λ l. value_at (l ++ end_to_end ts) q) is
@@ -87,7 +87,7 @@ module _ {V : Type 0} where
   rest_below : (e : List ℕ × V) (t : List (List ℕ × V)) → IsRising (e ∷ t) → T (below_all key_cmp e.0 t)
   rest_below e t r = first _ _ (passes _ r)
 
-  -- the least of the first entries is the first of the union, and the union of what is left comes behind it
+  -- the least of the first entries is the first of the union, and the union of what is left comes after it
   pub united-least : (ts : List (List (List ℕ × V))) (i : ℕ) (e : List ℕ × V) (t : List (List ℕ × V)) → All IsRising ts → Apart ts → i < length ts → slice_index_or ts i [] ≡ e ∷ t → ((j : ℕ) → j < length ts → IsNotAfter e.0 (slice_index_or ts j [])) → united ts ≡ e ∷ united (slice_set ts i t)
   united-least ts i e t rising apart within is least =
       same_tables (united ts) (e ∷ united left) (IsRising-united ts) (is_true _ (both _ _ (below_values e.0 (united left) (λ q s. values_below e.0 (end_to_end left) q all_below (ap is_some (sym (value_at-united left q)) ∙ s))) (passes _ (IsRising-united left))))

@@ -43,6 +43,6 @@ abbrev pub sum_below : (ℕ → ℕ) → ℕ → ℕ
 sum_below f zero = 0
 sum_below f (suc n) = sum_below f n + f n
 
--- Of the tables of several lists of pairs all parts together have as many keys as all pairs have.
+-- All parts of the tables of several lists of pairs together have as many keys as all the pairs.
 abbrev pub PartsShare : {V : Type 0} → (V → V → V) → Type 0
 PartsShare {V} join = (parts : ℕ) (lists : List (List (List ℕ × V))) → 1 ≤ parts → sum_below (λ part. length (keys_of (end_to_end (map (λ pairs. in_part parts part (table_of join pairs)) lists)))) parts ≡ length (keys_of (end_to_end lists))

@@ -24,23 +24,24 @@ module _ {V : Type 0} where
   unfoldable pub united : List (List (List ℕ × V)) → List (List ℕ × V)
   united ts = tabulate (first_value ts) (keys_of (end_to_end ts))
 
-  -- No key stands in two of the tables.
+  -- No key is in two of the tables.
   abbrev pub Apart : List (List (List ℕ × V)) → Type 0
   Apart ts = (i j : ℕ) (key : List ℕ) → i < length ts → j < length ts → is_some (value_at (slice_index_or ts i []) key) ≡ true → is_some (value_at (slice_index_or ts j []) key) ≡ true → i ≡ j
 
-  -- A key does not come after the first one of a table.
+  -- A key is not above the first key of a table.
   abbrev pub IsNotAfter : List ℕ → List (List ℕ × V) → Type 0
   IsNotAfter key [] = Unit {0}
   IsNotAfter key (e ∷ t) = key_cmp key e.0 ≢ Greater
 
-  -- The table at place `i` has a first entry, whose key comes after the first one of no table.
+  -- The table at place `i` has a first entry, whose key is not above the first key of any table.
   pub record IsLeast (ts : List (List (List ℕ × V))) (i : ℕ) : Type 0 where
     pub within : i < length ts
     pub first : List ℕ × V
     pub is : slice_index_or ts i [] ≡ first ∷ drop 1 (slice_index_or ts i [])
     pub least : (j : ℕ) → j < length ts → IsNotAfter first.0 (slice_index_or ts j [])
 
-  -- Of the first `n` tables, the one whose first entry comes first, with its key, or none where no table has an entry.
+  -- Of the first `n` tables, the one whose first entry has the least key, with that key; nothing if no table has an
+  -- entry.
   abbrev pub BestIs : List (List (List ℕ × V)) → ℕ → Option (ℕ × List ℕ) → Type 0
   BestIs ts n None = (j : ℕ) → j < n → slice_index_or ts j [] ≡ []
   BestIs ts n (Some best) = (best.0 < n) × ((first : List ℕ × V) × (first.0 ≡ best.1) × (slice_index_or ts best.0 [] ≡ first ∷ drop 1 (slice_index_or ts best.0 []))) × ((j : ℕ) → j < n → IsNotAfter best.1 (slice_index_or ts j []))

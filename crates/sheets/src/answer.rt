@@ -1,4 +1,4 @@
-//! The lines of several sheets in one order.
+//! The lines of several sheets in one order of keys.
 ghost use Rattle.std.specs.Prelude.{◌≡◌, ◌++◌, [], length, map, All, OnOk, OnErr, IfOk, IfSome, None};
 ghost use Rattle.definitions.specs.Answer.{lines_of};
 ghost use Rattle.definitions.specs.Outside.{GainsPrefix};
@@ -12,8 +12,8 @@ use job_laws::{Job, Key};
 use std::alloc::{AllocError, Global};
 use std::cmp::Ordering;
 
-/// Appends the lines of all entries of the roots in byte order of their keys to `out`, and answers how many entries there
-/// are; where memory runs out, a prefix of the lines. It is one pass over the entries, each chosen among the roots.
+/// Appends the lines of all entries of the roots, in byte order of their keys, to `out`, and returns the number of
+/// entries; out of memory, a prefix of the lines. It is one pass over the entries, with a comparison for each root.
 pub fn answer_of<J: Job>(
     alloc: Global,
     job: &J,
@@ -68,7 +68,7 @@ fn rests_of<'a, J: Job>(
     Ok(rests)
 }
 
-/// The place of the table whose first entry comes first, or none where no table has an entry.
+/// The place of the table whose first entry has the least key; `None` if no table has an entry.
 fn least<'a, J: Job>(rests: &[Rest<'a, J>]) -> Option<usize>
     ensures none { result ≡ None → All (λ t. t ≡ []) rests.now }
     ensures some { IfSome result (IsLeast rests.now) }

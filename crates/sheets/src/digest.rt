@@ -1,4 +1,4 @@
-//! What a table is as bytes, entry by entry, and their hash.
+//! A table as bytes, entry by entry, and their hash.
 ghost use Rattle.std.specs.Prelude.{◌≡◌, ◌++◌, ℕ, List, IfOk, OnOk};
 ghost use Rattle.sheets.specs.Digests.{HoldsBut, entry_bytes, table_bytes, table_digest};
 
@@ -6,11 +6,11 @@ use job_laws::{Job, Key, be64_bytes};
 use sha2::{Digest, Sha256};
 use std::alloc::{AllocError, Global};
 
-/// How many bytes of a table are gathered before they are hashed, in bytes. A piece stays in a processor's cache.
+/// How many bytes of a table are gathered before they are hashed. A piece fits into a processor's cache.
 const PIECE: usize = 32_768;
 
-/// The digest of a table: SHA-256, of FIPS 180-4, over its entries as bytes. They are hashed piece by piece, so it takes
-/// room for two pieces at the most, or for the longest entry.
+/// The digest of a table: SHA-256 (FIPS 180-4) of its entries as bytes. They are hashed piece by piece, so it takes at
+/// most the memory of two pieces, or of the longest entry.
 pub(crate) fn digest_of<J: Job>(
     alloc: Global,
     entries: &[(Key, J::Val)],
@@ -31,7 +31,7 @@ pub(crate) fn digest_of<J: Job>(
     Ok(hasher.finalize())
 }
 
-// Hashes the bytes where they are a piece or more.
+// Hashes the bytes if they are a piece or more.
 fn hash_full(hasher: &mut Sha256, bytes: &mut Vec<u8>)
     ensures { (m : List ℕ) → HoldsBut hasher.old bytes.old.items m → HoldsBut hasher.new bytes.new.items m }
 {

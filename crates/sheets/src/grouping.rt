@@ -9,7 +9,7 @@ use indexmap::IndexMap;
 use job_laws::{Emit, Job, Key, Meter};
 use std::alloc::{AllocError, Global};
 
-/// The table of the pairs: their values are joined key by key as they stand, and then the distinct keys are sorted.
+/// The table of the pairs: their values are joined key by key in their order, then the distinct keys are sorted.
 pub(crate) fn grouped<J: Job>(
     alloc: Global,
     job: &J,
@@ -50,7 +50,7 @@ fn joined_by_key<'a, J: Job>(
     Ok(groups)
 }
 
-/// Joins one more value to what stands with its key.
+/// Joins one more value to that of its key.
 fn put_pair<'a, J: Job>(
     alloc: Global,
     job: &J,

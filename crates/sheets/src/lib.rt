@@ -1,7 +1,8 @@
 //! Sheets: shared tables of partial results, with the number that their job is set to, one for each part of the keys.
-//! [`map_sheets`] maps records to sheets, [`merge_sheets`] merges two, [`answer_of`] writes the lines of all parts, and no
-//! other call makes a sheet but [`Sheet::empty`] and [`Sheet::share`]. Mapping is n log n in the pairs, a merge linear in
-//! the entries, and a new table is hashed once; keys are shared and never copied. No table ever changes.
+//! [`map_sheets`] maps records to sheets, [`merge_sheets`] merges two, and [`answer_of`] writes the lines of all parts;
+//! besides these only [`Sheet::empty`] and [`Sheet::share`] make a sheet. Mapping costs one look-up for each pair and n
+//! log n comparisons for n distinct keys, a merge is linear in the entries, and a new table is hashed once; a merge
+//! shares keys and copies none. No table ever changes.
 #![tactic(auto)]
 
 mod answer;

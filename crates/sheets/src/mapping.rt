@@ -13,8 +13,9 @@ use job_laws::{Emit, Job, Meter};
 use record_text::Records;
 use std::alloc::{AllocError, Global};
 
-/// The sheet of each part: the entries of that part in the table of the pairs that the records emit, in emitted order.
-/// It is one pass over the pairs, and a sort of the distinct keys.
+/// The sheets of the records, one for each of `parts` parts: the entries of that part in the table of the pairs that
+/// the records emit, in emitted order. It counts a map for each record. It is one pass over the pairs and a sort of the
+/// distinct keys.
 pub fn map_sheets<J: Job>(
     alloc: Global,
     job: &J,
@@ -27,7 +28,7 @@ pub fn map_sheets<J: Job>(
     ensures ok { IfOk result (λ sheets. IsMapped (meaning_of J.Job job.now) (J.setting job.now) parts records.now sheets.items) }
     ensures mapped { OnOk result ((J.Meter.counts m.new).maps ≡ risen_by (length records.now) (J.Meter.counts m.old).maps) }
 
-    // Whatever it answers:
+    // Whatever it returns:
     ensures counted { RoseBy (length records.now) 0 (length (pairs_of (J.emits (J.setting job.now)) records.now)) (J.Meter.counts m.old) (J.Meter.counts m.new) }
 {
     let pairs = map_records(alloc, job, records, m)?;

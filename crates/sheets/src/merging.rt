@@ -1,4 +1,4 @@
-//! Two sheets of one setting as one.
+//! Merging two sheets of one setting.
 ghost use Rattle.std.specs.Prelude.{◌≡◌, ◌≤◌, ◌+◌, IfOk, OnOk};
 ghost use Rattle.definitions.specs.Tables.{IsRising, HasGoodValues, merged, merge_in_order, common_keys};
 ghost use Rattle.job_laws.specs.Counted.{risen, one_join, RoseBy};
@@ -9,8 +9,8 @@ use job_laws::{Job, Key, Meter};
 use std::alloc::{AllocError, Global};
 use std::cmp::Ordering;
 
-/// The union of two sheets by key, with the joined value where both have the key, of which `a`'s stands left. Keys are
-/// shared; it is linear in the entries.
+/// The union of two sheets by key, with the joined value if both have the key, `a`'s value on the left. It counts one
+/// merge. Keys are shared; it is linear in the entries, and hashes the merged table.
 pub fn merge_sheets<J: Job>(
     alloc: Global,
     job: &J,
@@ -23,7 +23,7 @@ pub fn merge_sheets<J: Job>(
     ensures setting { IfOk result (λ s. s.setting ≡ J.setting job.now) }
     ensures entries { IfOk result (λ s. s.entries ≡ merged (J.joined (J.setting job.now)) a.now.entries b.now.entries) }
 
-    // Whatever it answers, one merge was counted and at most the common keys were joined.
+    // Whatever it returns, one merge was counted, and at most a join for each common key.
     ensures merges { (J.Meter.counts m.new).merges ≡ risen (J.Meter.counts m.old).merges }
     ensures counted { RoseBy 0 1 (common_keys a.now.entries b.now.entries) (J.Meter.counts m.old) (J.Meter.counts m.new) }
 {
@@ -63,7 +63,7 @@ fn join_entries<J: Job>(
     Ok((key, val))
 }
 
-/// Two rising lists of entries as one. Keys are shared and values copied; it is linear in the entries.
+/// Merges two rising lists of entries. Keys are shared and values copied; it is linear in the entries.
 fn merge_entries<J: Job>(
     alloc: Global,
     job: &J,

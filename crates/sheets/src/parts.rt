@@ -48,7 +48,7 @@ impl<V: Drop> PartEntries<V> {
     }
 }
 
-/// The sheet of each part of a rising table. Entries move, and it is linear in them.
+/// The sheet of each part of a rising table. Entries are moved; it is linear in them.
 pub(crate) fn sheets_of_parts<J: Job>(
     alloc: Global,
     setting: u32,
@@ -71,7 +71,7 @@ pub(crate) fn sheets_of_parts<J: Job>(
     Ok(sheets)
 }
 
-/// The entries of each part, in the order in which they stand.
+/// The entries of each part, in their order.
 fn in_parts<V: Drop>(
     alloc: Global,
     entries: Vec<(Key, V)>,

@@ -1,4 +1,4 @@
-//! What is left of a table.
+//! The rest of a table.
 ghost use Rattle.std.specs.Prelude.{◌≡◌, ◌∷◌, [], drop, IfSome, None};
 ghost use Rattle.definitions.specs.Tables.{HasGoodValues, IsRising};
 
@@ -6,7 +6,7 @@ use crate::Sheet;
 use job_laws::{Job, Key};
 use std::marker::Model;
 
-/// The entries of a sheet that were not taken yet.
+/// The entries of a sheet that are not taken yet.
 #[derive(Drop)]
 pub(crate) struct Rest<'a, J: Job> {
     entries: &'a [(Key, J::Val)],

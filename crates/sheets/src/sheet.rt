@@ -1,4 +1,4 @@
-//! A shared table with its digest: what mapping and merging make, and what a memo keeps.
+//! A shared table with its digest: the result of mapping and merging, and the value that a memo keeps.
 ghost use Rattle.std.specs.Prelude.{◌≡◌, ◌++◌, [], ◌↔◌, ◌^◌, ◌<◌, IsTrue, IfOk, OnOk, OnErr};
 ghost use Rattle.definitions.specs.Answer.{lines_of};
 ghost use Rattle.definitions.specs.Outside.{GainsPrefix};
@@ -60,7 +60,7 @@ impl<J: Job> Sheet<J> {
         })
     }
 
-    /// The same sheet once more. Nothing is copied; it fails only where the count of its owners is full.
+    /// Another owner of the same sheet. Nothing is copied; it fails only if the count of owners is full.
     pub fn share(&self) -> Result<Sheet<J>, AllocError>
         ensures same { IfOk result (λ s. s ≡ self.now) }
         ensures rising { IsRising self.now.entries }
@@ -98,7 +98,7 @@ impl<J: Job> Sheet<J> {
         &self.table
     }
 
-    /// Appends the lines of the entries in order to `out`; where memory runs out, a prefix of them.
+    /// Appends the lines of the entries in order to `out`; out of memory, a prefix of them.
     pub fn write_lines(&self, alloc: Global, job: &J, out: &mut Vec<u8>) -> Result<(), AllocError>
         requires { self.now.setting ≡ J.setting job.now }
         ensures ok { OnOk result (out.new.items ≡ out.old.items ++ lines_of (meaning_of J.Job job.now).text self.now.entries) }
@@ -108,8 +108,8 @@ impl<J: Job> Sheet<J> {
     }
 }
 
-/// Whether two sheets have equal settings and equal tables. Where their digests are equal it compares whole tables. It
-/// takes no memory.
+/// Whether two sheets have equal settings and equal tables. If settings and digests are equal, it compares whole
+/// tables. It takes no memory.
 pub fn same_sheet<J: Job>(a: &Sheet<J>, b: &Sheet<J>) -> bool
     ensures { IsTrue result ↔ (a.now ≡ b.now) }
 {

@@ -68,7 +68,7 @@ impl<J: Job> Table<J> {
         &self.entries[i].1
     }
 
-    /// Appends the lines of the entries in order to `out`; where memory runs out, a prefix of them.
+    /// Appends the lines of the entries in order to `out`; out of memory, a prefix of them.
     pub(crate) fn write_lines(
         &self,
         alloc: Global,

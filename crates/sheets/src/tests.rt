@@ -11,7 +11,7 @@ use std::alloc::{AllocError, Global};
 use std::marker::PhantomData;
 use std::test::Fail;
 
-// The first byte of a record with the record's length, of which the last one stays.
+// The first byte of a record with the record's length, of which the last is kept.
 #[derive(Drop)]
 struct LastLength<M: Meter> {
     meter: PhantomData<M>,
@@ -92,7 +92,7 @@ fn all_accepted<J: Job>(job: &J, records: &Records) -> bool
     true
 }
 
-// The records of a text, which are divided by LF; the first nine that are records.
+// The records of a text, which LF separates; the first nine that are records.
 fn records_of(alloc: Global, text: &[u8]) -> Result<Records, AllocError> {
     let mut records = Records::new(alloc);
     for line in text.split(|b| *b == b'\n') {
@@ -103,7 +103,7 @@ fn records_of(alloc: Global, text: &[u8]) -> Result<Records, AllocError> {
     Ok(records)
 }
 
-// The sheet of the records in one part; an empty one where the job does not accept them all.
+// The sheet of the records in one part; an empty one if the job does not accept them all.
 fn sheet_of<J: Job>(
     alloc: Global,
     job: &J,
@@ -257,7 +257,7 @@ fn a_sheet_has_the_digest_of_its_table(rt: HostRuntime) -> Result<(), Fail> {
     Ok(())
 }
 
-// An entry more, whose key is so often the same byte.
+// Adds an entry whose key is the same byte, repeated.
 fn put_entry(
     alloc: Global,
     entries: &mut Vec<(Key, u64)>,
@@ -291,7 +291,7 @@ fn a_table_longer_than_a_piece_is_hashed_whole(rt: HostRuntime) -> Result<(), Fa
     Ok(())
 }
 
-// The entries of some parts of 16 as text, one part behind the other; none where the job does not accept the records.
+// The entries of some of 16 parts as text, one part after the other; `None` if the job does not accept the records.
 fn shown_parts(alloc: Global, text: &[u8], parts: &[usize]) -> Result<String, AllocError> {
     let job = last_length();
     let records = records_of(alloc, text)?;
@@ -315,8 +315,8 @@ fn each_key_stands_in_its_own_part(rt: HostRuntime) -> Result<(), Fail> {
     Ok(())
 }
 
-// The lines of the records in 16 parts, in one order, with how many entries there are; none where the job does not accept
-// the records.
+// The lines of the records in 16 parts, in one order, with the number of entries; `None` if the job does not accept the
+// records.
 fn answered<J: Job>(
     alloc: Global,
     job: &J,

@@ -1,8 +1,8 @@
--- What the adapters over real readers and writers are seen as, and which bytes they hand on.
+-- The model of the adapters over real readers and writers, and which bytes they pass on.
 use Rattle.std.specs.Prelude.{ℕ, List, take, Result, MatchResult, Option}
 use Rattle.std.specs.Io.KnownBytes.{Appends}
 
--- How often the adapter failed, and the bytes that its reader has left or its writer holds, where they are known.
+-- How often the adapter failed, and the bytes that its reader has left or its writer holds, if they are known.
 pub record Adapter : Type 0 where
   pub faults : ℕ
   pub known : Option (List ℕ)

@@ -26,16 +26,17 @@ will_fail d = list_any (λ k. one_more d.calls == k) d.fails
 abbrev pub failed : Device → Device
 failed d = record d { calls = one_more d.calls; faults = one_more d.faults }
 
--- The device after a call that leaves these bytes.
+-- The device after a call that succeeds and leaves these bytes.
 abbrev pub called : Device → List ℕ → Device
 called d bytes = record d { calls = one_more d.calls; bytes = bytes }
 
--- A call of a source in memory: it fails exactly where it is to, and else gives as many bytes as fit.
+-- A call of a source in memory: it fails exactly at the given calls, and otherwise gives as many bytes as fit.
 abbrev pub MemTakes : Device → Device → ℕ → Result ℕ ReadFailed → Type 0
 MemTakes old new room (Ok n) = (will_fail old ≡ false) × (n ≡ min (min room old.most) (length old.bytes)) × (new ≡ called old (drop n old.bytes))
 MemTakes old new room (Err e) = (will_fail old ≡ true) × (new ≡ failed old)
 
--- A call of a sink in memory: it fails exactly where it is to, and else takes as many bytes as fit or finds no memory.
+-- A call of a sink in memory: it fails exactly at the given calls, and otherwise takes as many bytes as fit or runs out
+-- of memory.
 abbrev pub MemPuts : Device → Device → List ℕ → Result ℕ WriteFault → Type 0
 MemPuts old new piece (Ok n) = (will_fail old ≡ false) × (n ≡ min (length piece) old.most) × (new ≡ called old (old.bytes ++ take n piece))
 MemPuts old new piece (Err Failed) = (will_fail old ≡ true) × (new ≡ failed old)

@@ -1,10 +1,11 @@
-//! What a thread passes before it works a task. A test can hold tasks back there, to show that two are under way
-//! together; no answer depends on it.
+//! A gate that a thread passes before it does a task. A test can hold tasks back there, to show that two are in
+//! progress together; no answer depends on it.
 ghost use Rattle.std.specs.Prelude.{ℕ};
 
-/// Is passed before each task is worked, by the thread that works it. It may hold a task back, and changes no answer.
+/// The thread that does a task passes the gate before it. A gate may hold a task back, and changes no answer.
 pub trait Gate: Sync {
-    // That it was passed for the task of this number: only a call of `pass` tells it of a gate that is not known.
+    // The gate was passed for the task of this number. For code that is generic in the gate only a call of `pass`
+    // ensures it.
     ghost passed: { Self → ℕ → Type 0 };
 
     /// Passes the gate before the task of this number.

@@ -1,4 +1,4 @@
-//! A sink into memory, for tests: it takes so many bytes a call, and fails at the calls whose numbers it was given.
+//! A sink into memory, for tests: it limits the bytes of a call, and fails at given calls.
 ghost use Rattle.std.specs.Prelude.{◌≡◌, ◌<◌, ◌≤◌, ℕ, List, [], length, take, min, IfOk, IsErrOf};
 ghost use Rattle.std.specs.declared.option.Option.TheVariants.{Some};
 ghost use Rattle.definitions.specs.Outside.{Rose};
@@ -9,8 +9,8 @@ use crate::{Sink, WriteFault};
 use std::alloc::Global;
 use std::marker::Model;
 
-/// A sink into memory that takes at most so many bytes a call, and fails at the calls whose numbers it was given.
-/// Calls are numbered from 1, and the number stays once it stands at its type's end.
+/// A sink into memory that takes at most a given number of bytes at each call, and fails at the calls with given
+/// numbers. Calls are numbered from 1; at the end of its type the number stays.
 #[derive(Drop)]
 pub struct MemSink {
     bytes: Vec<u8>,

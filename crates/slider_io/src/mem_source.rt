@@ -1,5 +1,4 @@
-//! A source over bytes in memory, for tests: it gives so many bytes a call, and fails at the calls whose numbers it was
-//! given.
+//! A source over bytes in memory, for tests: it limits the bytes of a call, and fails at given calls.
 ghost use Rattle.std.specs.Prelude.{◌≡◌, ◌≤◌, ◌-◌, ℕ, List, [], length, drop, take, min, IfOk, OnErr, ◌↔◌, IsTrue};
 ghost use Rattle.std.specs.List.{list_any};
 ghost use Rattle.std.specs.declared.option.Option.TheVariants.{Some};
@@ -10,8 +9,8 @@ ghost use Rattle.slider_io.specs.Memory.{Device, MemTakes};
 use crate::{ReadFailed, Source};
 use std::marker::Model;
 
-/// A source over bytes in memory that gives at most so many bytes a call, and fails at the calls whose numbers it was
-/// given. Calls are numbered from 1, and the number stays once it stands at its type's end.
+/// A source over bytes in memory that gives at most a given number of bytes at each call, and fails at the calls with
+/// given numbers. Calls are numbered from 1; at the end of its type the number stays.
 #[derive(Drop)]
 pub struct MemSource {
     bytes: Vec<u8>,
@@ -51,7 +50,7 @@ impl MemSource {
     }
 }
 
-/// Copies the bytes from a place on into a buffer, as many as fit, and answers how many.
+/// Copies the bytes from a place on into a buffer, as many as fit, and returns their number.
 fn give(bytes: &[u8], at: usize, into: &mut [u8]) -> usize
     requires { at ≤ length bytes.now }
     ensures count { result ≡ min (length into.old) (length bytes.now - at) }

@@ -1,5 +1,5 @@
-//! A source over a real reader, as standard input: the trusted edge where bytes come in. It tries an interrupted read
-//! again, and counts each other failure.
+//! A source over a real reader, as standard input: the trusted edge where bytes come in. It retries an interrupted
+//! read, and counts each other failure.
 ghost use Rattle.std.specs.Prelude.{◌≡◌, ◌≤◌, ℕ, List, length, IfOk, OnOk, OnErr};
 ghost use Rattle.std.specs.declared.option.Option.TheVariants.{None};
 ghost use Rattle.definitions.specs.Outside.{Rose};
@@ -14,8 +14,8 @@ use std::marker::Model;
 /// How often an interrupted call is tried.
 const TRIES: u32 = 64;
 
-/// A source over a real reader. As a source it tells no bytes. It is seen as its count, which rises by one at each
-/// failure, and the bytes that its reader has left, where these are known.
+/// A source over a real reader. As a source its bytes are not observable. It is modelled by its count of faults, which
+/// increases by one at each failure, and by the bytes that its reader has left, if these are known.
 #[derive(Drop)]
 pub struct ReaderSource<R: Read + Drop> {
     inner: R,

@@ -1,4 +1,4 @@
-//! What the program writes to. A sink counts its failures, so that a caller answers a failed write only if one was
+//! Where the program writes. A sink counts its failures, so that a caller reports a failed write only if one was
 //! counted.
 ghost use Rattle.std.specs.Prelude.{◌≡◌, ◌<◌, ◌≤◌, ℕ, List, length, IfOk, IsErrOf};
 ghost use Rattle.std.specs.declared.option.Option.{Option};
@@ -8,23 +8,26 @@ ghost use Rattle.slider_io.specs.Devices.{Puts};
 /// Why a sink did not take bytes.
 #[derive(Clone, Copy, Debug, PartialEq, Eq)]
 pub enum WriteFault {
-    /// The sink failed, and its count of faults rose.
+    /// The sink failed, and its count of faults increased.
     Failed,
-    /// There was no memory for the bytes.
+    /// Out of memory.
     Mem,
 }
 
-/// Bytes that go out. What was taken is told or not told.
+/// Takes bytes. Those that it took are observable or not.
 pub trait Sink {
-    /// The bytes taken, in order, where they are told.
+    /// The bytes taken, in order, if they are observable.
     ghost held: { Self → Option (List ℕ) };
 
-    /// How often the sink has failed. The count stays once it stands at its type's end.
+    /// How often the sink has failed. At the end of its type the count stays.
     ghost faults: { Self → ℕ };
 
-    /// Takes a prefix of a piece, and answers how many bytes it has. None are taken of a piece that is not empty only
-    /// where the count of faults rose. On `Err` the bytes taken are as before; `Failed` comes only where the count of
-    /// faults rose.
+    /// Takes a prefix of a piece, and returns its length in bytes. Of a nonempty piece it takes none only if the count
+    /// of faults increased. On `Err` the bytes taken are unchanged.
+    ///
+    /// # Errors
+    ///
+    /// `Failed`, only if the count of faults increased; `Mem` out of memory.
     fn put(&mut self, piece: &[u8]) -> Result<usize, WriteFault>
         ensures most { IfOk result (λ n. n ≤ length piece.now) }
         ensures bytes { Puts (held self.old) (held self.new) piece.now result }

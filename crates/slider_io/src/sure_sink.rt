@@ -1,4 +1,4 @@
-//! A sink into memory that takes each piece whole. It never fails, and only lack of memory keeps it from taking one.
+//! A sink into memory that takes each piece whole. It never fails, but may run out of memory.
 ghost use Rattle.std.specs.Prelude.{◌≡◌, ◌≢◌, ◌<◌, ◌≤◌, ℕ, List, [], length, IfOk, IfErr, IsErrOf};
 ghost use Rattle.std.specs.declared.option.Option.TheVariants.{Some};
 ghost use Rattle.definitions.specs.Outside.{Rose};
@@ -9,7 +9,7 @@ use crate::{Sink, WriteFault};
 use std::alloc::Global;
 use std::marker::Model;
 
-/// A sink into memory that never fails: a call takes the whole piece, or finds no memory.
+/// A sink into memory that never fails: a call takes the whole piece, or runs out of memory.
 #[derive(Drop)]
 pub struct SureSink {
     bytes: Vec<u8>,

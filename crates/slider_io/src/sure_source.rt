@@ -1,4 +1,4 @@
-//! A source over bytes in memory that never fails: it stands for a script that is known as a whole.
+//! A source over bytes in memory that never fails, for a script that is held whole.
 ghost use Rattle.std.specs.Prelude.{◌≡◌, ◌≤◌, ℕ, List, length, drop, min, take, IfOk, OnErr, IsOk, IsOkAnd};
 ghost use Rattle.std.specs.declared.option.Option.TheVariants.{Some};
 ghost use Rattle.definitions.specs.Outside.{Rose};

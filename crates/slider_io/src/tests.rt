@@ -6,7 +6,7 @@ use crate::{
 use std::alloc::AllocError;
 use std::io::{Error, ErrorKind, Read, Write};
 
-/// A writer whose flush is interrupted so many times.
+/// A writer whose flush is interrupted a given number of times.
 #[derive(Drop)]
 struct FlushedLate {
     times: u32,
@@ -26,7 +26,7 @@ impl Write for FlushedLate {
     }
 }
 
-/// A reader and a writer that are interrupted so many times before each call, and then fail or not.
+/// A reader and a writer that are interrupted a given number of times before each call, and then fail or not.
 #[derive(Drop)]
 struct Interrupted {
     times: u32,
@@ -70,7 +70,7 @@ impl Write for Interrupted {
     }
 }
 
-/// A writer that takes two bytes a call, only once those before were flushed, and may have nowhere to flush to.
+/// A writer that takes two bytes at each call, only once those before were flushed; its flush may fail.
 #[derive(Drop)]
 struct Held {
     waits: bool,

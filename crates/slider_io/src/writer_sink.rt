@@ -1,5 +1,5 @@
 //! A sink into a real writer, as standard output: the trusted edge where bytes go out. Each call flushes, so that what
-//! was taken has left the program; an interrupted call is tried again, and each other failure is counted.
+//! was taken has left the program; an interrupted call is retried, and each other failure is counted.
 ghost use Rattle.std.specs.Prelude.{◌≡◌, ◌<◌, ◌≤◌, ℕ, List, length, IfOk, OnOk, OnErr, IfErr, IsErrOf};
 ghost use Rattle.std.specs.declared.option.Option.TheVariants.{None};
 ghost use Rattle.definitions.specs.Outside.{Rose};
@@ -16,9 +16,9 @@ use std::marker::Model;
 /// How often an interrupted call is tried.
 const TRIES: u32 = 64;
 
-/// A sink into a real writer, which it flushes in each call. As a sink it tells no bytes, since what was written and not
-/// flushed is answered as failed. It is seen as its count, which rises by one at each failure, and the bytes that its
-/// writer holds, where these are known.
+/// A sink into a real writer, which it flushes in each call. As a sink its bytes are not observable, since it reports a
+/// failure for what was written and not flushed. It is modelled by its count of faults, which increases by one at each
+/// failure, and by the bytes that its writer holds, if these are known.
 #[derive(Drop)]
 pub struct WriterSink<W: Write + Drop> {
     inner: W,
@@ -43,7 +43,7 @@ impl<W: Write + Drop> WriterSink<W> {
     }
 }
 
-/// Flushes a writer, and answers whether it did; an interrupted flush is tried again.
+/// Flushes a writer, and returns whether that succeeded; an interrupted flush is retried.
 fn flush<W: Write>(inner: &mut W) -> bool
     ensures { Keeps (W.contents inner.old) (W.contents inner.new) }
 {

@@ -1,6 +1,6 @@
-//! The program `slider`: it reads a script on standard input and writes, at each run, the job's answer over the present
-//! window. It makes the devices of the process and the meters, and hands them to [`slider_program::run_program`], which
-//! carries the promises.
+//! The program `slider`: it reads a script on standard input and at each run writes the job's answer over the present
+//! window. `main` makes the devices of the process and the meters, and passes them to [`slider_program::run_program`],
+//! which has the promises.
 #![tactic(auto)]
 
 use job_laws::CountMeter;

@@ -1,4 +1,4 @@
--- What was said on `err`: the work lines of a script, and behind them the line of its fault.
+-- What was written to `err`: the work lines of a script, then the line of its fault.
 use Rattle.std.proofs.Common.{◌≡◌, ◌≢◌, ℕ, ◌≤◌, Bool, List, [], ◌∷◌, ◌++◌, length, refl, sym, ap, ◌∙◌, subst, append-nil, inl, inr, ◌⊎◌, arith}
 use Rattle.std.specs.Prelude.{Option, Result, Ok, Err}
 use Rattle.std.specs.declared.option.Option.TheVariants.{Some, None}
@@ -31,7 +31,7 @@ one_tried Done line before now tried prefix later = record {
   later = later;
 }
 
--- these lines were tried also where less is claimed to be done
+-- these lines were tried, also by a weaker claim
 pub tried_for : (First Done : Type 0) (lines more : List (List ℕ)) (before now : DeviceView) → (Done → First) → lines ≡ more → AreTried First lines before now → AreTried Done more before now
 tried_for First Done lines more before now so same t = subst (λ (ls : List (List ℕ)). AreTried Done ls before now) same (record { cut = t.cut; whole = λ done still. t.whole (so done) still; later = t.later })
 
@@ -40,12 +40,12 @@ pub unanswered : (status : ℕ) → (status ≢ 0) → (status ≢ 3) → IsAnsw
 unanswered status zero three (inl is) = zero is
 unanswered status zero three (inr is) = three is
 
--- neither a value nor want of memory gives the status 3
+-- neither a value nor out of memory gives the status 3
 pub never_three : {A E : Type 0} (r : Result A E) → status_if_ok r ≢ 3
 never_three (Ok a) = λ e. cc
 never_three (Err e) = λ e. cc
 
--- what is told of bytes that are known
+-- what is stated for observable bytes
 told_of : (a b : Option (List ℕ)) (P : List ℕ → List ℕ → Type 0) (Q : List ℕ → Type 0) → Told a b P → ((x y : List ℕ) → P x y → Q x) → (x : List ℕ) → a ≡ Some x → Q x
 told_of None b P Q told step x is = absurd (none-some x is)
 told_of (Some y) None P Q told step x is = absurd told
@@ -68,7 +68,7 @@ module _ {V M : Type 0} (j : Meaning V) (w : WindowState) (counts : M → Counts
   }
 
   module _ (row_now : Row M) (now : DeviceView) where
-    -- nothing is said behind the work lines
+    -- nothing is said after the work lines
     pub said_works : (result : Result (Unit {0}) Halt) (status : ℕ) → ScriptSaid j w most_script counts asked told row row_now before now result → (IsAnswered status → IsServed result) → (status ≢ 3) → ErrSaid j w counts asked told row row_now before now status
     said_works result status s served other = record {
       works = s.works;
@@ -98,7 +98,7 @@ module _ {V M : Type 0} (j : Meaning V) (w : WindowState) (counts : M → Counts
       exact = λ answered. s.exact (inl refl);
     }
 
-    -- a fault is said behind the work lines
+    -- the line of a fault comes after the work lines
     module _ (fault : ScriptFault) (mid : DeviceView) (s : ScriptSaid j w most_script counts asked told row row_now before mid (Err (Halts.Script fault))) (status : ℕ) (rest out_before out_now : Option (List ℕ)) (served : Told told rest (λ script after. AtFault j w most_script fault.line fault.why script out_before out_now)) where
       abbrev pub line_of : List ℕ
       line_of = fault_line fault.line fault.why

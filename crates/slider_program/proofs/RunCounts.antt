@@ -12,7 +12,7 @@ use Rattle.record_text.specs.Script.{Script, commands}
 use Rattle.definitions.specs.Limits.{most_script}
 use Rattle.slider_program.specs.Summaries.{runs_in, runs_of}
 
--- a command is one run at the most
+-- a command is at most one run
 pub one_at_most : (c : Command) → runs_in c ≤ 1
 one_at_most (Bucket records) = omega arith
 one_at_most (Drop n) = omega arith
@@ -23,7 +23,7 @@ one_at_most (Edit at del ins) = omega arith
 one_at_most (Load records) = omega arith
 one_at_most Run = omega arith
 
--- so many runs were counted, and those to come are the rest
+-- a number of runs were counted, and the rest are still to come
 abbrev pub RunsCounted : ℕ → Reading → Option (List ℕ) → Option (List ℕ) → Type 0
 RunsCounted runs r first left = Told first left (λ script rest. runs_of (commands most_script script) ≡ runs + runs_of (to_come r rest))
 

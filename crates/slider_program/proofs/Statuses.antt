@@ -1,4 +1,4 @@
--- What each status says of the script that was served, and of the line that sums one up.
+-- What each status says about the script that was served, and about the line that sums one up.
 use Rattle.std.proofs.Common.{◌≡◌, ◌≢◌, ℕ, List, [], refl, sym, ◌∙◌, append-nil, inl, inr, ◌⊎◌}
 use Rattle.std.specs.Prelude.{Option}
 use Rattle.definitions.specs.Limits.{most_script}

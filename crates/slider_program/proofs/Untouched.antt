@@ -59,7 +59,7 @@ module _ {S K E M : Type 0} (counts : M → Counts) (see : Outside S K E M → S
   planned_for jobs Latest plan old = planned_nothing jobs.latest (kind_of plan.tree) (bound_for plan.tree) (shape_for plan.tree) plan old
   planned_for jobs TopK plan old = planned_nothing (jobs.topk plan.k) (kind_of plan.tree) (bound_for plan.tree) (shape_for plan.tree) plan old
 
-  -- memory ran out, whatever the words ask for
+  -- memory ran out, whatever the arguments ask for
   pub untouched : {C I L T : Type 0} (jobs : Jobs C I L T) (asked : Result Plan Field) (old : Outside S K E M) → Ran counts see jobs asked old old 6
   untouched jobs (Ok plan) old = planned_for jobs plan.job plan old
   untouched jobs (Err field) old = record {

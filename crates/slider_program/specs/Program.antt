@@ -1,4 +1,4 @@
--- What a call of the program promises. `Ran`, the last one, goes by cases on what the words of the call ask for.
+-- What a call of the program promises. `Ran`, the last definition, goes by cases on what the arguments ask for.
 use Rattle.std.specs.Prelude.{◌≡◌, ◌≢◌, ◌≤◌, ℕ, Bool, false, List, [], ◌∷◌, ◌++◌, length, Option, option_map, IsSome, Result, Ok, Err, ◌⊎◌}
 use Rattle.std.specs.declared.option.Option.TheVariants.{Some, None}
 use Rattle.definitions.specs.Limits.{most_script}
@@ -33,7 +33,7 @@ use Rattle.slider_program.specs.Trees.{bound_for, shape_for}
 use Rattle.slider_program.specs.Words.{fault_line, end_line}
 use Rattle.slider_program.specs.Summaries.{summary_of}
 
--- The devices and the meters that a call is handed, whole: what is equal of them is equal in all.
+-- The devices and the meters of a call, whole: if they are equal, everything about them is.
 pub record Outside (S K E M : Type 0) : Type 0 where
   pub source : S
   pub out : K
@@ -44,24 +44,25 @@ pub record Outside (S K E M : Type 0) : Type 0 where
 abbrev pub outside : {S K E M : Type 0} → S → K → E → Row M → Outside S K E M
 outside source out err meters = record { source = source; out = out; err = err; meters = meters }
 
--- What is seen of the devices: the bytes that the source has left, and that `out` and `err` hold, and their counts of faults.
+-- The views of the devices: the bytes that the source has left and that `out` and `err` hold, and their counts of
+-- faults.
 pub record Seen : Type 0 where
   pub source : DeviceView
   pub out : DeviceView
   pub err : DeviceView
 
--- What is seen of the devices that a call is handed.
+-- The views of the devices of a call.
 abbrev pub seen_of : {S K E M : Type 0} → Sources.Ghosts S → Sinks.Ghosts K → Sinks.Ghosts E → Outside S K E M → Seen
 seen_of s k e o = record { source = source_view s o.source; out = sink_view k o.out; err = sink_view e o.err }
 
--- What the jobs mean that a program is handed.
+-- The meanings of a program's jobs.
 pub record Jobs (C I L T : Type 0) : Type 0 where
   pub count : Meaning C
   pub index : Meaning I
   pub latest : Meaning L
   pub topk : ℕ → Meaning T
 
--- The meanings of these jobs, of which three have the setting 0, and the last one has the number of members that it keeps.
+-- The meanings of these jobs: three have the setting 0, and the last one has the number of members that it keeps.
 abbrev pub jobs_of : {A C B I D L F T M : Type 0} → JobTrait.Ghosts A C M → JobTrait.Ghosts B I M → JobTrait.Ghosts D L M → JobTrait.Ghosts F T M → Jobs C I L T
 jobs_of count index latest topk = record { count = meaning_at count 0; index = meaning_at index 0; latest = meaning_at latest 0; topk = meaning_at topk }
 
@@ -69,12 +70,12 @@ jobs_of count index latest topk = record { count = meaning_at count 0; index = m
 abbrev pub generated_by : Plan → Option (List ℕ)
 generated_by plan = option_map (λ seed. generated plan.job plan.tree seed) plan.seed
 
--- A line was tried: a prefix of it was gained, and all of it unless the count of faults rose.
+-- A line was tried: a prefix of it was gained, and all of it unless the count of faults increased.
 pub record Tries (line : List ℕ) (before now : DeviceView) : Type 0 where
   pub prefix : Told before.bytes now.bytes (GainsPrefix line)
   pub whole : (Rose before.faults now.faults → ⊥) → Told before.bytes now.bytes (λ old new. new ≡ old ++ line)
 
--- An output is summed up by a line: what each status says of `out`.
+-- An output is summed up by a line: what each status says about `out`.
 pub record SumsUp (line : List ℕ) (before now : DeviceView) (status : ℕ) : Type 0 where
   -- The line was written.
   pub done : status ≡ 0 → Told before.bytes now.bytes (λ old new. new ≡ old ++ line)
@@ -85,7 +86,7 @@ pub record SumsUp (line : List ℕ) (before now : DeviceView) (status : ℕ) : T
   -- There is no other status; 6 is for memory that ran out.
   pub known : (status ≡ 0) ⊎ (status ≡ 5) ⊎ (status ≡ 6)
 
--- The script that is served: a generated one, or what the source has left where it tells that.
+-- The script that is served: a generated one, or what the source has left, if that is observable.
 abbrev pub script_for : Option (List ℕ) → Option (List ℕ) → Option (List ℕ)
 script_for None left = left
 script_for (Some script) left = Some script
@@ -94,13 +95,14 @@ script_for (Some script) left = Some script
 abbrev pub IsAnswered : ℕ → Type 0
 IsAnswered status = (status ≡ 0) ⊎ (status ≡ 3)
 
--- The status of a call that answers a value, or finds no memory.
+-- The status of a call that succeeds, or runs out of memory.
 abbrev pub status_if_ok : {A E : Type 0} → Result A E → ℕ
 status_if_ok (Ok a) = 0
 status_if_ok (Err e) = 6
 
 module _ {V : Type 0} (j : Meaning V) (w : WindowState) where
-  -- What each status says of the script that the source had left, and of its output over the job and from the window on.
+  -- What each status says about the script that the source had left, and about its output over the job, from the window
+  -- on.
   pub record ScriptAnswered (old new : Seen) (status : ℕ) : Type 0 where
     -- The source was read to its end, and all was written.
     pub done : status ≡ 0 → Told old.source.bytes new.source.bytes (λ script after. Whole j w most_script script after old.out.bytes new.out.bytes)
@@ -125,14 +127,14 @@ module _ {V : Type 0} (j : Meaning V) (w : WindowState) where
   AnsweredBy None old new status = ScriptAnswered old new status
   AnsweredBy (Some script) old new status = Summed script old new status
 
-  -- What was said on `err` for a script: the work line of each run that was answered, where work lines are asked for, and
-  -- then the line of its fault. The work of these runs is no more than the meters rose by, and exactly so much where all
+  -- What was written to `err` for a script: the work line of each run that was answered, if work lines are asked for,
+  -- then the line of its fault. The work of these runs is at most what the meters increased by, and exactly that if all
   -- was answered.
   pub record ErrSaid {M : Type 0} (counts : M → Counts) (asked : Bool) (told : Option (List ℕ)) (row row_now : Row M) (before now : DeviceView) (status : ℕ) : Type 0 where
     pub works : List Work
     pub last : List (List ℕ)
     pub lines : AreTried (IsAnswered status) (asked_lines asked 1 works ++ last) before now
-    -- Nothing is said last but of a fault.
+    -- The last line is that of a fault, or there is none.
     pub none : status ≢ 3 → status ≢ 6 → last ≡ []
     pub fault : status ≡ 3 → (line : ℕ) × (why : Why) × (last ≡ fault_line line why ∷ [])
     pub ended : (script : List ℕ) → told ≡ Some script → (last ≡ []) ⊎ (last ≡ end_line (ending_of j w (commands most_script script)) ∷ [])
@@ -143,16 +145,17 @@ module _ {V : Type 0} (j : Meaning V) (w : WindowState) where
     pub exact : IsAnswered status → all_work works ≡ work_between (work_of counts row) (work_of counts row_now)
 
 module _ {S K E M : Type 0} (counts : M → Counts) (see : Outside S K E M → Seen) where
-  -- The words are a plan, and its script was answered over this job, in trees for windows of this kind with these bounds.
+  -- The arguments are a plan, and its script was answered over this job, in trees for windows of this kind with these
+  -- bounds.
   pub record Planned {V : Type 0} (j : Meaning V) (kind : Kind) (bound : ℕ → Shape → ℕ → Shift → ℕ) (shaped : Shape → Shift → Shape) (plan : Plan) (old new : Outside S K E M) (status : ℕ) : Type 0 where
     pub answered : AnsweredBy j (empty_window kind plan.settings.places) (generated_by plan) (see old) (see new) status
     pub said : ErrSaid j (empty_window kind plan.settings.places) counts plan.settings.work (script_for (generated_by plan) (see old).source.bytes) old.meters new.meters (see old).err (see new).err status
-    -- Each meter counted in its place, and all no more than the script's runs may cost.
+    -- Each meter counted at its place, and all together at most what the script's runs may cost.
     pub rose : RowRose counts old.meters new.meters
     pub costs : (script : List ℕ) → script_for (generated_by plan) (see old).source.bytes ≡ Some script → ScriptCosts j bound shaped counts (no_leaves kind plan.settings.places) (commands most_script script).0 old.meters new.meters
-    -- With a seed, the source was not touched, nor was `err` where no work lines are asked for.
+    -- With a seed, the source was not touched, nor was `err` if no work lines are asked for.
     pub generated : IsSome plan.seed → (new.source ≡ old.source) × (plan.settings.work ≡ false → new.err ≡ old.err)
-    -- Without work lines nothing was asked of `err` but at a fault of the script, or if memory ran out.
+    -- Without work lines `err` was not touched except at a fault of the script, or if memory ran out.
     pub quiet : plan.settings.work ≡ false → status ≢ 3 → status ≢ 6 → new.err ≡ old.err
 
   -- The same in the trees that the plan names.
@@ -166,7 +169,7 @@ module _ {S K E M : Type 0} (counts : M → Counts) (see : Outside S K E M → S
   PlannedFor jobs Latest plan old new status = PlannedBy jobs.latest plan old new status
   PlannedFor jobs TopK plan old new status = PlannedBy (jobs.topk plan.k) plan old new status
 
-  -- The words were refused with a line: nothing but `err` was touched.
+  -- The arguments were refused with a line, and only `err` was touched.
   pub record Refused (line : List ℕ) (old new : Outside S K E M) (status : ℕ) : Type 0 where
     pub source : new.source ≡ old.source
     pub out : new.out ≡ old.out
@@ -175,7 +178,7 @@ module _ {S K E M : Type 0} (counts : M → Counts) (see : Outside S K E M → S
     pub tried : status ≡ 2 → Tries line (see old).err (see new).err
     pub prefix : Told (see old).err.bytes (see new).err.bytes (GainsPrefix line)
 
-  -- What the words ask for was done, or they were refused.
+  -- What the arguments ask for was done, or they were refused.
   abbrev pub Ran : {C I L T : Type 0} → Jobs C I L T → Result Plan Field → Outside S K E M → Outside S K E M → ℕ → Type 0
   Ran jobs (Ok plan) old new status = PlannedFor jobs plan.job plan old new status
   Ran jobs (Err field) old new status = Refused (line_for field) old new status

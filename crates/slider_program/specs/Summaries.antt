@@ -10,7 +10,7 @@ use Rattle.job_laws.specs.Meanings.{Meaning}
 use Rattle.slider_session.specs.Output.{output_of}
 use Rattle.definitions.specs.Limits.{most_script}
 
--- How many runs a command is.
+-- How many runs a command is: one or none.
 abbrev pub runs_in : Command → ℕ
 runs_in Run = 1
 runs_in c = 0
@@ -24,7 +24,7 @@ runs_among (c ∷ cs) = runs_in c.0 + runs_among cs
 abbrev pub runs_of : Script → ℕ
 runs_of script = runs_among script.0
 
--- The summary of an output over so many runs: its length and its SHA-256.
+-- The summary of an output, with the number of runs: its length and its SHA-256.
 abbrev pub summary_line : ℕ → List ℕ → List ℕ
 summary_line runs output = codes "runs " ++ decimal runs ++ (codes " bytes " ++ decimal (length output) ++ (codes " sha256 " ++ encode_lower (sha256 output) ++ codes "\n"))
 

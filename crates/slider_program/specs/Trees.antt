@@ -1,4 +1,4 @@
--- What the trees' names stand for: the window that each is for is `kind_of` in program_words; here is what each costs.
+-- What each tree costs, by its name. The kind of its window is `kind_of` in `program_words`.
 use Rattle.std.specs.Prelude.{◌≡◌, ℕ, ◌*◌, ◌-◌}
 use Rattle.record_text.specs.declared.kind.Kind.{Kind}
 use Rattle.record_text.specs.declared.shift.Shift.{Shift}
@@ -27,7 +27,7 @@ shape_for Random shape shift = no_shape
 shape_for Rotating shape shift = no_shape
 shape_for Coalescing shape shift = no_shape
 
--- Trees for windows of this kind with these bounds rotate.
+-- Trees for windows of this kind with these bounds are rotating trees.
 pub record Rotates (kind : Kind) (bound : ℕ → Shape → ℕ → Shift → ℕ) (shaped : Shape → Shift → Shape) : Type 0 where
   pub kind_is : kind ≡ kind_of Rotating
   pub bound_is : bound ≡ bound_for Rotating

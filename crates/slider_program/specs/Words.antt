@@ -1,10 +1,10 @@
--- The lines that stand on `err` where a script ends.
+-- The lines that are written to `err` at the end of a script.
 use Rattle.std.specs.Prelude.{ℕ, List, [], ◌++◌, codes, decimal}
 use Rattle.record_text.specs.declared.script_fault.Why.{Why}
 use Rattle.record_text.specs.declared.script_fault.Why.TheVariants.{Unknown, BadNumber, BadName, ShortInput, LongLine, LongScript, NotHere, TooMany, BadRecord, WindowLarge, Read, Mem}
 use Rattle.record_text.specs.Script.{Ending, Done, Faulty}
 
--- The word of a fault; what ends a script is neither a failed read nor want of memory.
+-- The word of a fault. A fault of a script is neither a failed read nor out of memory.
 abbrev pub fault_word : Why → List ℕ
 fault_word Unknown = codes "unknown"
 fault_word BadNumber = codes "number"

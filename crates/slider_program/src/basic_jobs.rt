@@ -1,4 +1,4 @@
-//! The jobs that the program hands in, counted by meters of one type.
+//! The jobs of the program, with meters of one type.
 ghost use Rattle.std.specs.Prelude.{◌≡◌, refl};
 
 use job_laws::{JobSet, Meter};
@@ -6,7 +6,7 @@ use job_topk::TopK;
 use jobs_basic::{Count, Index, Latest};
 use std::marker::PhantomData;
 
-/// The jobs of `jobs_basic` and `job_topk`, counted by any meter.
+/// The jobs of `jobs_basic` and `job_topk`, with any type of meter.
 #[derive(Drop)]
 pub struct BasicJobs<M: Meter> {
     meter: PhantomData<M>,

@@ -1,5 +1,5 @@
-//! What the program `slider` does between its arguments and its status. Start at `program.rt`, whose [`run_program`]
-//! carries the promises; what they mean is `specs/Program.antt`.
+//! The program `slider`, from its arguments to its status. Start at [`run_program`] in `program.rt`, whose clause has
+//! the promises; `specs/Program.antt` says what they mean.
 #![tactic(auto)]
 
 mod basic_jobs;

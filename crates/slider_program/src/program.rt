@@ -1,5 +1,4 @@
-//! The top call: from the words of a call and its devices to the status that it ends with. The last function carries the
-//! promises.
+//! The top-level call, from arguments and devices to a status. The clause of the last function has the promises.
 ghost use Rattle.std.specs.Prelude.{◌≡◌, ◌≢◌, ◌≤◌, ◌⊎◌, ℕ, List, false, map, string_bytes};
 ghost use Rattle.std.specs.declared.option.Option.TheVariants.{Some};
 ghost use Rattle.definitions.specs.Limits.{most_script};
@@ -37,8 +36,8 @@ use std::sync::Wait;
 use std::thread::Threads;
 use tree_laws::Tree;
 
-/// Tries a line on `err`, and answers this status; a failure that `err` counts ends the line and changes no status, and
-/// want of memory gives 6.
+/// Tries a line on `err`, and returns this status. A failed write ends the line and does not change the status; out of
+/// memory, it returns 6.
 fn status_after<E: Sink>(err: &mut E, line: &[u8], status: u8) -> u8
     ensures status { (result ≡ status) ⊎ (result ≡ 6) }
     ensures tried { result ≢ 6 → Tries line.now (sink_view E.Sink err.old) (sink_view E.Sink err.new) }
@@ -52,7 +51,7 @@ fn status_after<E: Sink>(err: &mut E, line: &[u8], status: u8) -> u8
     }
 }
 
-/// Says a script's fault on `err`.
+/// Writes the line of a script's fault to `err`.
 fn status_of_fault<E: Sink>(alloc: Global, err: &mut E, fault: ScriptFault) -> u8
     ensures status { (result ≡ 3) ⊎ (result ≡ 6) }
     ensures tried { result ≡ 3 → Tries (fault_line fault.line fault.why) (sink_view E.Sink err.old) (sink_view E.Sink err.new) }
@@ -65,8 +64,8 @@ fn status_of_fault<E: Sink>(alloc: Global, err: &mut E, fault: ScriptFault) -> u
     }
 }
 
-/// Serves the script that the source has left with a job in trees of one kind, from the empty window on, and answers the
-/// status.
+/// Serves the script that the source has left with a job in trees of one kind, from the empty window on, and returns
+/// the status.
 fn serve_script<
     J: Job + Send + Sync,
     T: Tree<J> + Send,
@@ -106,7 +105,7 @@ where
     }
 }
 
-/// Writes the line of a summary, and answers the status.
+/// Writes the line of a summary, and returns the status.
 fn status_of_summary<K: Sink>(out: &mut K, line: &[u8]) -> u8
     ensures { SumsUp line.now (sink_view K.Sink out.old) (sink_view K.Sink out.new) result }
 {
@@ -117,7 +116,7 @@ fn status_of_summary<K: Sink>(out: &mut K, line: &[u8]) -> u8
     }
 }
 
-/// Writes the summary of a generated script, and answers the status.
+/// Writes the summary of a generated script, and returns the status.
 fn sum_up<
     J: Job + Send + Sync,
     T: Tree<J> + Send,
@@ -243,7 +242,7 @@ where
     }
 }
 
-/// Runs a job whose values may swap in the trees that a plan names; `T` are those that rotate.
+/// Runs a job whose values may swap in the trees that a plan names; `T` is the rotating tree.
 fn run_swapping<
     J: Job + Send + Sync,
     T: Tree<J> + Send,
@@ -343,11 +342,11 @@ fn run_plan<S: Source, K: Sink, E: Sink, B: JobSet, G: Gate, R: Threads + Wait +
     }
 }
 
-/// Reads the words, takes the named job from `jobs`, serves the script that `source` has left from the empty window of
-/// the named tree on, and answers the status: 0 done, 2 words refused, 3 a fault of the script, 4 a read failed, 5 a write
-/// failed, 6 want of memory. The answers go to `out`, the work lines that are asked for, and the line for a refusal or a
-/// fault, to `err`. With a seed it leaves `source` alone, serves the generated script, and writes to `out` the summary of
-/// the answers in their place. Of the jobs it knows their laws alone.
+/// Reads the arguments `words`, takes the named job from `jobs`, serves the script that `source` has left from the
+/// empty window of the named tree on, and returns the status: 0 done, 2 arguments refused, 3 a fault of the script, 4 a
+/// read failed, 5 a write failed, 6 out of memory. Answers go to `out`; work lines, if asked for, and the line for a
+/// refusal or a fault go to `err`. With a seed it does not touch `source`, serves the generated script, and writes the
+/// summary of its answers to `out`. Of the jobs it knows only their laws. It may block.
 pub fn run_program<Q: Threads + Wait + Sync, S: Source, K: Sink, E: Sink, B: JobSet, G: Gate>(
     alloc: Global,
     rt: &Q,

@@ -26,7 +26,7 @@ use std::sync::Wait;
 use std::thread::Threads;
 use tree_laws::Tree;
 
-/// How many runs a command is.
+/// How many runs a command is: one or none.
 fn runs_in(command: &Command) -> u64
     ensures { result ≡ runs_in command.now }
 {
@@ -36,7 +36,7 @@ fn runs_in(command: &Command) -> u64
     }
 }
 
-/// How many runs the script that a source has left has, where it has no fault of form.
+/// How many runs the script has that a source has left, if it has no fault of form.
 fn count_runs<S: Source>(alloc: Global, source: &mut S) -> Result<u64, ScriptFault>
     ensures { IfOk result (λ runs. Told (S.left source.old) (S.left source.new) (λ script after. runs ≡ runs_of (commands most_script script))) }
 {
@@ -57,7 +57,7 @@ fn count_runs<S: Source>(alloc: Global, source: &mut S) -> Result<u64, ScriptFau
     }
 }
 
-/// The summary of an output over so many runs. Its digest is SHA-256 of FIPS 180-4.
+/// The summary line of an output, with a number of runs. The digest is SHA-256 (FIPS 180-4).
 fn line_of_output(alloc: Global, runs: u64, output: &[u8]) -> Result<String, AllocError>
     ensures { IfOk result (λ line. string_bytes line ≡ summary_line runs output.now) }
 {
@@ -66,8 +66,8 @@ fn line_of_output(alloc: Global, runs: u64, output: &[u8]) -> Result<String, All
     format!(in alloc; "runs {runs} bytes {bytes} sha256 {digest}\n")
 }
 
-/// Serves a generated script with a job in trees of one kind, from the empty window on, and sums up its output, which is
-/// gathered and not written. A generated script has no fault, so memory alone is wanted where there is no line.
+/// Serves a generated script with a job in trees of one kind, from the empty window on, and sums up its output, which
+/// is gathered and not written. A generated script has no fault, so it fails only out of memory.
 pub fn summary_of<
     J: Job + Send + Sync,
     T: Tree<J> + Send,

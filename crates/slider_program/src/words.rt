@@ -1,4 +1,4 @@
-//! The lines that stand on `err` where a script ends.
+//! The lines that are written to `err` at the end of a script.
 ghost use Rattle.std.specs.Prelude.{◌≡◌, IfOk, string_bytes};
 ghost use Rattle.slider_program.specs.Words.{fault_word, fault_line};
 

@@ -1,4 +1,4 @@
--- A window that takes no refused record holds accepted records.
+-- A window that accepts only accepted records holds accepted records.
 use Rattle.std.proofs.Common.{◌≡◌, ℕ, zero, suc, ◌+◌, ◌-◌, Bool, true, false, not, List, [], ◌∷◌, ◌++◌, length, take, drop, refl, sym, subst, All, cond}
 use Rattle.std.specs.Prelude.{Option, if◌then◌else◌, IsTrue}
 use Rattle.std.specs.declared.option.Option.TheVariants.{Some, None}
@@ -28,7 +28,7 @@ module _ {X : Type 0} (P : X → Type 0) where
   All-right (x ∷ xs) ys all = All-right xs ys (All-tail P x (xs ++ ys) all)
 
 module _ {V : Type 0} (j : Meaning V) where
-  -- where no record is refused, all are accepted
+  -- if no record is refused, all are accepted
   pub all_accepted : (at : ℕ) (records : List (List ℕ)) → refused_from j.accepts at records ≡ None → AllAccepted j records
   all_accepted at [] h = All-nil (λ r. IsTrue (j.accepts r))
   all_accepted at (r ∷ rs) h = by_first (j.accepts r) refl (all_accepted (at + 1) rs) h
@@ -37,7 +37,7 @@ module _ {V : Type 0} (j : Meaning V) where
       by_first true is more h = All-cons (λ r. IsTrue (j.accepts r)) r rs is (more h)
       by_first false is more h = cc
 
-  -- where a command is not refused, the records that it brings are accepted
+  -- if a command is not refused, the records that it brings are accepted
   pub brings_accepted : (w : WindowState) (c : Command) → refusal_of j.accepts w c ≡ None → AllAccepted j (brought c)
   brings_accepted w c h = all_accepted 0 (brought c) (none (has_command w.kind c) (asks_too_many w c) (is_large (window_after w c)) (first_refused j.accepts (brought c)) h)
     where
@@ -47,12 +47,12 @@ module _ {V : Type 0} (j : Meaning V) where
       none true false large None h = refl
       none true false large (Some index) h = cc
 
-  -- where each leaf is accepted, all records are
+  -- if each leaf is accepted, all records are
   pub joined_accepted : (leaves : List Leaf) → All (AllAccepted j) leaves → AllAccepted j (joined leaves)
   joined_accepted [] all = All-nil (λ r. IsTrue (j.accepts r))
   joined_accepted (leaf ∷ leaves) all = All-append (λ r. IsTrue (j.accepts r)) leaf (joined leaves) (All-head (AllAccepted j) leaf leaves all) (joined_accepted leaves (All-tail (AllAccepted j) leaf leaves all))
 
-  -- where all records are accepted, each leaf is
+  -- if all records are accepted, each leaf is
   leaves_accepted : (leaves : List Leaf) → AllAccepted j (joined leaves) → All (AllAccepted j) leaves
   leaves_accepted [] all = All-nil (AllAccepted j)
   leaves_accepted (leaf ∷ leaves) all = All-cons (AllAccepted j) leaf leaves (All-left (λ r. IsTrue (j.accepts r)) leaf (joined leaves) all) (leaves_accepted leaves (All-right (λ r. IsTrue (j.accepts r)) leaf (joined leaves) all))

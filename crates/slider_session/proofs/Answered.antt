@@ -1,4 +1,4 @@
--- What a run comes to, by what its parts did: the engine, the write of its answer, and its work line.
+-- What a run does, by its steps: the engine, the write of its answer, and its work line.
 use Rattle.std.proofs.Common.{◌≡◌, ℕ, ◌≤◌, Bool, List, [], ◌∷◌, ◌++◌, refl, sym, ap, subst, ◌∙◌, append-nil, inr, arith}
 use Rattle.std.specs.Prelude.{Result, Ok, Err}
 use Rattle.definitions.specs.Outside.{Told, GainsPrefix}
@@ -15,7 +15,7 @@ use Rattle.slider_session.specs.declared.halt.Halt.{Halt}
 use Rattle.slider_session.specs.declared.halt.Halt.TheVariants as Halts
 use Rattle.slider_session.specs.declared.work.Work.{Work}
 
--- Of lines that were not tried nothing is there.
+-- Lines that were not tried left nothing.
 cut-none : (lines : List (List ℕ)) → AreCut lines []
 cut-none [] = refl
 cut-none (line ∷ lines) = ([], [], (line, refl), cut-none lines, refl)
@@ -36,7 +36,7 @@ tried-whole line before now told later = record {
   later = later;
 }
 
--- A run said nothing whose answer was not written whole.
+-- A run whose answer was not written whole wrote no work line.
 pub said-halt : (i : ℕ) (work : Work) (d : DeviceView) (asked : Bool) (bytes : List ℕ) (before now : DeviceView) (halt : Halt) → AnswerWritten bytes before now (Err halt) → RunSaid asked i work d d (Err halt)
 said-halt i work d asked bytes before now (Halts.Script fault) a = absurd a
 said-halt i work d asked bytes before now Halts.Read a = absurd a

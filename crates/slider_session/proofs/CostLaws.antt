@@ -35,7 +35,7 @@ use Rattle.slider_session.specs.declared.halt.Halt.{Halt}
 use Rattle.slider_session.proofs.Stepping.{StepKind, places_stay}
 use Rattle.slider_session.specs.Costs.{Standing, before_runs, Costs, no_costs, with_costs, CostAtMost, run_bound, run_costs, after_run, CommandCosts, CommandsCost, ScriptCosts}
 
--- costs are the same where each of them is
+-- costs are the same if each of them is
 same_costs : (a b : Costs) → a.maps ≡ b.maps → a.lane_joins ≡ b.lane_joins → a.merges ≡ b.merges → a.part_joins ≡ b.part_joins → a ≡ b
 same_costs a b maps lane_joins merges part_joins = λ i. record { maps = maps i; lane_joins = lane_joins i; merges = merges i; part_joins = part_joins i }
 
@@ -59,11 +59,11 @@ module _ {M : Type 0} (counts : M → Counts) where
     part_joins = (omega arith, omega arith);
   }
 
-  -- one count rose, and then rose more
+  -- one count increased, and then increased more
   within_then : (a b x y z : ℕ) → RoseWithin a x y → RoseWithin b y z → RoseWithin (a + b) x z
   within_then a b x y z p q = let p0 = p.0 in let p1 = p.1 in let q0 = q.0 in let q1 = q.1 in (omega (arith, p0, q0), omega (arith, p1, q1))
 
-  -- so much was counted, and then so much more
+  -- some costs were counted, and then more
   pub at_most_then : (a b : Costs) (x y z : Row M) → CostAtMost counts a x y → CostAtMost counts b y z → CostAtMost counts (with_costs a b) x z
   at_most_then a b x y z p q = record {
     rose = row_then counts x y z p.rose q.rose;
@@ -73,7 +73,7 @@ module _ {M : Type 0} (counts : M → Counts) where
     part_joins = within_then a.part_joins b.part_joins (sum_of (λ m. (counts m).joins) x.parts) (sum_of (λ m. (counts m).joins) y.parts) (sum_of (λ m. (counts m).joins) z.parts) p.part_joins q.part_joins;
   }
 
--- the greatest of numbers that are all at most one is at most that one
+-- the greatest of numbers that are all at most a bound is at most that bound
 greatest_at_most : {A : Type 0} (f : A → ℕ) (most : ℕ) (xs : List A) → EachAt (λ k x. f x ≤ most) xs → greatest (map f xs) ≤ most
 greatest_at_most f most [] each = omega arith
 greatest_at_most f most (x ∷ xs) each =
@@ -86,7 +86,7 @@ an_item : {A : Type 0} (k : ℕ) (xs : List A) → k < length xs → A
 an_item k [] within = absurd (omega (arith, within))
 an_item k (x ∷ xs) within = x
 
--- where a session stands whose trees have this shape
+-- the standing of a session whose trees have this shape
 abbrev pub standing_of : {J T : Type 0} → Shape → SessionView J T → Standing
 standing_of shape h = record { shape = shape; leaves = h.engine.leaves; window = h.window }
 
@@ -123,7 +123,7 @@ module _ {V : Type 0} (j : Meaning V) (bound : ℕ → Shape → ℕ → Shift �
   change_costs s t Run other done is = absurd (other refl)
 
   module _ (w : WindowView) (most : ℕ) where
-    -- the commands to come cost, with what the script cost so far, what the script costs
+    -- the cost of the commands to come, with the cost so far, is that of the script
     abbrev pub CostsOn : Costs → Standing → Reading → List ℕ → List ℕ → Type 0
     CostsOn so_far s r script after = (rest : Costs) → CommandsCost j bound shaped s (to_come r after).0 rest → CommandsCost j bound shaped (before_runs w) (commands most script).0 (with_costs so_far rest)
 
@@ -138,7 +138,7 @@ module _ {V : Type 0} (j : Meaning V) (bound : ℕ → Shape → ℕ → Shift �
         subst (CommandsCost j bound shaped (before_runs w) (commands most a).0) (costs_then so_far one rest) (p (with_costs one rest) here))
         goes told
 
-    -- wherever the script ends, it cost no more
+    -- wherever the script ends, it cost no more than allowed
     cost_ends : {M : Type 0} (counts : M → Counts) (so_far : Costs) (s : Standing) (r : Reading) (x y : Row M) (first left : Option (List ℕ)) → Told first left (CostsOn so_far s r) → CostAtMost counts so_far x y → (script : List ℕ) → first ≡ Some script → ScriptCosts j bound shaped counts w (commands most script).0 x y
     cost_ends counts so_far s r x y first left goes cost script is = at_left left (subst (λ (o : Option (List ℕ)). Told o left (CostsOn so_far s r)) is goes)
       where
@@ -178,7 +178,7 @@ module _ {J T V M : Type 0} (j : Meaning V) (bound : ℕ → Shape → ℕ → S
           let same = ap (λ m. (counts m).merges) (worked.parts.others p d there) in
           (omega (arith, same), omega (arith, same))
 
-  -- a run, whatever it answers, costs no more than it may
+  -- a run, whatever it returns, costs no more than it may
   run_at_most : (shape : Shape) (old new : SessionView J T) (x y : Row M) → HasShape view shape old → RunWorked counts j bound tight view old.window x y old.engine new.engine → CostAtMost counts (run_costs j bound shaped (standing_of shape old)) x y
   run_at_most shape old new x y has worked = record {
     rose = worked.rose;
@@ -194,7 +194,7 @@ module _ {J T V M : Type 0} (j : Meaning V) (bound : ℕ → Shape → ℕ → S
         (low, omega (arith, high, most));
   }
 
-  -- behind a run the trees have the next shape
+  -- after a run the trees have the next shape
   run_shape : (shape : Shape) (old new : SessionView J T) (x y : Row M) → HasShape view shape old → RunWorked counts j bound tight view old.window x y old.engine new.engine → RunStands j view shaped old new → HasShape view (shaped shape (shift_of old.window)) new
   run_shape shape old new x y has worked stands =
       let settings = worked.same.settings in
@@ -207,11 +207,11 @@ module _ {J T V M : Type 0} (j : Meaning V) (bound : ℕ → Shape → ℕ → S
         places = ap (λ (w : WindowView). w.window.places) stands.window ∙ has.places ∙ sym (ap (λ s. s.places) settings);
       }
 
-  -- behind a run stands what stands behind it
+  -- the commands after a run that is kept
   run_is : (shape : Shape) (old new : SessionView J T) → RunStands j view shaped old new → standing_of (shaped shape (shift_of old.window)) new ≡ after_run j bound shaped (standing_of shape old)
   run_is shape old new stands = λ i. record { shape = shaped shape (shift_of old.window); leaves = stands.engine.leaves i; window = stands.window i }
 
-  -- behind another command the shape is as before
+  -- after another command the shape is unchanged
   same_shape : (shape : Shape) (old new : SessionView J T) → HasShape view shape old → new ≡ record old { window = new.window } → new.window.window.places ≡ old.window.window.places → HasShape view shape new
   same_shape shape old new has is places =
       let engine : old.engine ≡ new.engine = sym (ap (λ (h : SessionView J T). h.engine) is) in
@@ -222,7 +222,7 @@ module _ {J T V M : Type 0} (j : Meaning V) (bound : ℕ → Shape → ℕ → S
       }
 
   module _ (w : WindowView) (most : ℕ) where
-    -- what the script cost up to where a session stands
+    -- what the script cost up to a session's place in it
     pub record Costing (h : SessionView J T) (r : Reading) (x y : Row M) (first left : Option (List ℕ)) : Type 0 where
       pub shape : Shape
       pub has : HasShape view shape h
@@ -294,7 +294,7 @@ module _ {J T V M : Type 0} (j : Meaning V) (bound : ℕ → Shape → ℕ → S
         cost_at_halt halt (inl a) = cost_in_run (run_told a.0) (worked a.0)
         cost_at_halt halt (inr a) = λ script is. subst (λ (n : Row M). ScriptCosts j bound shaped counts w (commands most script).0 x n) (sym (still a.0)) (cost_here old r x y first left so script is)
 
-        -- the meters rose
+        -- the meters increased
         pub rose_on : (result : Result (Unit {0}) Halt) → StepKind j view shaped old new c line sunk sinks result → RowRose counts x z
         rose_on result (inl a) = row_then counts x y z so.cost.rose (worked a.0).rose
         rose_on result (inr a) = subst (RowRose counts x) (sym (still a.0)) so.cost.rose

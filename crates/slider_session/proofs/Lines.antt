@@ -1,4 +1,4 @@
--- Lines that are tried on a device: none, and some behind others.
+-- Lines that are tried on a device: none, and some after others.
 use Rattle.std.proofs.Common.{◌≡◌, ℕ, ◌+◌, Bool, true, false, List, [], ◌∷◌, ◌++◌, length, refl, sym, ap, ◌∙◌, subst, append-nil, append_assoc, arith}
 use Rattle.definitions.proofs.ToldBytes.{told_same, told_then}
 use Rattle.slider_session.specs.Devices.{DeviceView, all_lines, AreCut, AreTried}
@@ -23,7 +23,7 @@ tried_none Done d = record {
   later = omega arith;
 }
 
--- what was tried to its end was tried
+-- lines that were tried, restated
 pub tried_so : (Done : Type 0) (lines : List (List ℕ)) (before now : DeviceView) → AreTried (Unit {0}) lines before now → AreTried Done lines before now
 tried_so Done lines before now t = record { cut = t.cut; whole = λ done still. t.whole tt still; later = t.later }
 

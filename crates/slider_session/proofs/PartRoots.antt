@@ -23,7 +23,7 @@ module _ {V : Type 0} (setting parts : ℕ) (t : List (List ℕ × V)) where
   abbrev pub sheet_of : ℕ → SheetOf V
   sheet_of part = record { setting = setting; entries = in_part parts part t }
 
-  -- there are sheets of the first parts, so many
+  -- there are sheets of the first n parts
   pub record AreFirst (n : ℕ) (sheets : List (SheetOf V)) : Type 0 where
     pub count : length sheets ≡ n
     pub each : (part : ℕ) (d : SheetOf V) → part < length sheets → slice_index_or sheets part d ≡ sheet_of part
@@ -52,7 +52,7 @@ module _ {V : Type 0} (setting parts : ℕ) (t : List (List ℕ × V)) where
   pub all_set : (sheets : List (SheetOf V)) → AreSheets setting parts t sheets → All (λ s. s.setting ≡ setting) sheets
   all_set sheets are i d h = let n = are.count in ap (λ (s : SheetOf V). s.setting) (are.each i d (omega (arith, h, n)))
 
--- where there is no leaf, a sheet without entries is the sheet of each part
+-- if there is no leaf, a sheet without entries is the sheet of each part
 pub empty_part : {V : Type 0} (m : Meaning V) (setting parts part : ℕ) (leaves : List Leaf) (sheet : SheetOf V) → leaves ≡ [] → sheet.setting ≡ setting → sheet.entries ≡ [] → sheet ≡ sheet_of setting parts (table_of m.joined (pairs_of m.emits (joined leaves))) part
 empty_part {V} m setting parts part leaves sheet none set empty =
     (λ i. record { setting = set i; entries = empty i })

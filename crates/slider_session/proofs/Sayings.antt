@@ -1,4 +1,4 @@
--- What was said of the work of runs, command by command.
+-- What was reported of the work of runs, command by command.
 use Rattle.std.proofs.Common.{◌≡◌, ◌≢◌, ℕ, ◌+◌, ◌≤◌, Bool, List, [], ◌∷◌, ◌++◌, length, refl, sym, ap, ◌∙◌, subst, inl, inr, ◌⊎◌, arith, length-append}
 use Rattle.std.specs.Prelude.{Option, Result, Ok, Err}
 use Rattle.std.specs.declared.option.Option.TheVariants.{Some, None}
@@ -31,7 +31,7 @@ use Rattle.slider_session.proofs.Lines.{tried_none, tried_so, tried_then, asked_
 use Rattle.slider_session.proofs.Stepping.{StepKind}
 use Rattle.slider_session.proofs.WorkSums.{none_between, no_less, more_then, between_then, between_within, all_more}
 
--- what is told of a script whose bytes are known
+-- what is stated for a script whose bytes are known
 told_script : (first left : Option (List ℕ)) (P : List ℕ → List ℕ → Type 0) → Told first left P → (script : List ℕ) → first ≡ Some script → (after : List ℕ) × P script after
 told_script first left P told script is = at_left left (subst (λ (o : Option (List ℕ)). Told o left P) is told)
   where
@@ -40,7 +40,7 @@ told_script first left P told script is = at_left left (subst (λ (o : Option (L
     at_left (Some after) t = (after, t)
 
 module _ {V : Type 0} (j : Meaning V) where
-  -- behind a command other than a run there are as many runs as behind its window
+  -- after a command other than a run there are as many runs as after its window
   runs_other : (v : WindowState) (c : Command) (go : WindowState → ℕ) → (c ≢ Run) → runs_on j v c go ≡ none_if_refused (refusal_of j.accepts v c) (go (window_after v c))
   runs_other v (Bucket records) go other = refl
   runs_other v (Drop n) go other = refl
@@ -51,7 +51,7 @@ module _ {V : Type 0} (j : Meaning V) where
   runs_other v (Load records) go other = refl
   runs_other v Run go other = absurd (other refl)
 
-  -- of the script's runs so many were answered, and the others are of the commands to come
+  -- some of the script's runs were answered, and the others are of the commands to come
   abbrev pub RunsOn : (w : WindowState) (most : ℕ) → ℕ → WindowState → Reading → List ℕ → List ℕ → Type 0
   RunsOn w most n v r script after = runs_answered j w (commands most script) ≡ n + runs_from j v (to_come r after).0
 
@@ -72,7 +72,7 @@ module _ {V M : Type 0} (j : Meaning V) (counts : M → Counts) (asked : Bool) (
   }
 
 module _ {J T V M : Type 0} (j : Meaning V) (view : T → TreeView V) (shaped : Shape → Shift → Shape) (counts : M → Counts) (asked : Bool) (w : WindowState) (most : ℕ) where
-  -- what was said up to where a session stands
+  -- what was reported up to a session's place in the script
   pub record Saying (h : SessionView J T) (r : Reading) (x y : Row M) (first left : Option (List ℕ)) (before now : DeviceView) : Type 0 where
     pub works : List Work
     pub tried : AreTried (Unit {0}) (asked_lines asked 1 works) before now
@@ -95,7 +95,7 @@ module _ {J T V M : Type 0} (j : Meaning V) (view : T → TreeView V) (shaped : 
   }
 
   module _ (old : SessionView J T) (r : Reading) (x y : Row M) (first left : Option (List ℕ)) (before now : DeviceView) (so : Saying old r x y first left before now) where
-    -- so many were answered, or more
+    -- at least this many were answered
     some_runs : (script : List ℕ) → first ≡ Some script → length so.works ≤ runs_answered j w (commands most script)
     some_runs script is = let all = (told_script first left (RunsOn j w most (length so.works) (state_of old) r) so.runs script is).1 in omega (arith, all)
 
@@ -117,7 +117,7 @@ module _ {J T V M : Type 0} (j : Meaning V) (view : T → TreeView V) (shaped : 
       exact = λ served. so.work;
     }
 
-    -- serving stopped early, with the meters at or behind these
+    -- serving stopped early, with the meters at or after these
     said_short : (halt : Halt) (z : Row M) (end : DeviceView) → (IsServed (Err halt) → ⊥) → end ≡ now → IsMoreWork (work_of counts y) (work_of counts z) → ScriptSaid j w most counts asked first x z before end (Err halt)
     said_short halt z end short same more = record {
       works = so.works;

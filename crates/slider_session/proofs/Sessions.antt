@@ -1,4 +1,4 @@
--- A session stays one: after a command, and after a run that stands.
+-- A session stays a session: after a command, and after a run that is kept.
 use Rattle.std.proofs.Common.{◌≡◌, ℕ, List, refl, ap, sym, subst, ◌∙◌}
 use Rattle.std.specs.Prelude.{Result, Ok, Err}
 use Rattle.job_laws.specs.Meanings.{Meaning}
@@ -34,7 +34,7 @@ window-stays w Run = (refl, refl)
 
 module _ {V J T : Type 0} (kind : Kind) where
   module _ (j : Meaning V) (engine : EngineView J T) (old new : WindowView) (c : Command) (s : IsSession j kind engine old) where
-    -- A window that is as before.
+    -- A window that is unchanged.
     same-session : new ≡ old → IsSession j kind engine new
     same-session is = subst (IsSession j kind engine) (sym is) s
 
@@ -54,7 +54,7 @@ module _ {V J T : Type 0} (kind : Kind) where
     done-session (Err WindowLarge) d = same-session d.1
     done-session (Err Mem) d = same-session d.1
 
-  -- A run stands, and the window knows of it.
+  -- A run is kept, and the window knows of it.
   pub run-session : (mean : J → Meaning V) (view : T → TreeView V) (old new : EngineView J T) (w : WindowView) → IsSession (mean old.job) kind old w → IsSameEngine old new → (shaped : Shape → Shift → Shape) (now : WindowView) (settings : Settings) → IsRun view shaped w old new → now ≡ view_anew w → settings ≡ old.settings
       → IsSession (mean new.job) kind new now × (settings ≡ new.settings)
   run-session mean view old new w s same shaped now settings run is mine =

@@ -1,4 +1,4 @@
--- A step is a step of the script: what it writes, and how the script goes on behind it.
+-- A step is a step of the script: what it writes, and how the script goes on after it.
 use Rattle.std.proofs.Common.{◌≡◌, ◌≢◌, ℕ, ◌+◌, ◌≤◌, List, [], ◌++◌, refl, sym, ap, ◌∙◌, subst, append-nil, append_assoc, inl, inr, ◌⊎◌, arith}
 use Rattle.std.specs.Prelude.{Option, Result, Ok, Err}
 use Rattle.std.specs.declared.option.Option.TheVariants.{Some, None}
@@ -21,7 +21,7 @@ use Rattle.slider_session.specs.Calls.{SessionView, state_of, accepted_of, Chang
 use Rattle.slider_session.specs.declared.halt.Halt.{Halt}
 use Rattle.slider_session.specs.declared.halt.Halt.TheVariants as Halts
 
--- how a script goes on behind a command, with the next run and the window
+-- how a script goes on after a command, with the next run and the window
 abbrev pub Going : Type 0
 Going = ℕ → WindowState → Outcome
 
@@ -45,7 +45,7 @@ module _ {J T V : Type 0} (j : Meaning V) (old new : SessionView J T) (c : Comma
     pub ends : (go : Going) → on_command j (old.engine.runs + 1) (state_of old) c line go ≡ ([], Faulty fault.line fault.why)
     pub unwritten : now ≡ before
 
--- what a step comes to, over what was seen of the sink before and after it
+-- what a step did, by the views of the sink before and after it
 abbrev pub ComesTo : {J T V : Type 0} → Meaning V → SessionView J T → SessionView J T → Command → ℕ → DeviceView → DeviceView → Result (Unit {0}) Halt → Type 0
 ComesTo j old new c line before now (Ok done) = Goes j old new c line before.bytes now.bytes
 ComesTo j old new c line before now (Err (Halts.Script fault)) = IsRefused j old new c line before.bytes now.bytes fault × IsOfScript fault.why
@@ -68,7 +68,7 @@ one_more w (Edit at del ins) s = omega arith
 one_more w (Load records) s = omega arith
 one_more w Run s = omega arith
 
--- a prefix of a piece was written, as far as it is told
+-- a prefix of a piece was written, if bytes are observable
 gained : (all : List ℕ) (before now : Option (List ℕ)) → Told before now (GainsPrefix all) → (gain : List ℕ) × IsPrefix gain all × Told before now (λ bytes more. more ≡ bytes ++ gain)
 gained all None None t = ([], (all, refl), tt)
 gained all None (Some y) t = absurd t
@@ -76,7 +76,7 @@ gained all (Some x) None t = absurd t
 gained all (Some x) (Some y) t = (t.0, t.1, t.2)
 
 module _ {J T V : Type 0} (j : Meaning V) (view : T → TreeView V) (shaped : Shape → Shift → Shape) (old new : SessionView J T) (line : ℕ) (before now : DeviceView) where
-  -- the window's command, where `on_command` is the window's
+  -- a command of the window, where `on_command` is that of the window
   module _ (c : Command) (windows : (go : Going) → on_command j (old.engine.runs + 1) (state_of old) c line go ≡ unless_refused (refusal_of j.accepts (state_of old) c) line (go (old.engine.runs + 1) (window_after (state_of old) c))) where
     pub change_comes : (result : Result (Unit {0}) Halt) → Changes j.accepts old new c line result → now ≡ before → ComesTo j old new c line before now result
     change_comes (Ok done) a same = record {
@@ -144,7 +144,7 @@ module _ {J T V : Type 0} (j : Meaning V) (view : T → TreeView V) (shaped : Sh
 as_before : (before now : DeviceView) → now ≡ before → before.faults ≤ now.faults
 as_before before now same = let faults = ap (λ (d : DeviceView). d.faults) same in omega (arith, faults)
 
--- what each step comes to
+-- what each step did
 pub step_comes : {J T V : Type 0} (j : Meaning V) (view : T → TreeView V) (shaped : Shape → Shift → Shape) (old new : SessionView J T) (c : Command) (line : ℕ) (before now : DeviceView) (result : Result (Unit {0}) Halt) → Steps j view shaped old new c line before now result → ComesTo j old new c line before now result
 step_comes j view shaped old new (Bucket records) line before now result s = change_comes j view shaped old new line before now (Bucket records) (λ go. refl) result s.0 s.1
 step_comes j view shaped old new (Drop n) line before now result s = change_comes j view shaped old new line before now (Drop n) (λ go. refl) result s.0 s.1

@@ -1,4 +1,4 @@
--- How serving goes on from command to command, and how each of its ends shows the script's output.
+-- How serving goes on from command to command, and how each of its ends gives the script's output.
 use Rattle.std.proofs.Common.{◌≡◌, ◌≢◌, ℕ, ◌+◌, ◌<◌, ◌≤◌, Bool, true, false, List, [], ◌++◌, length, refl, sym, ap, ◌∙◌, subst, arith, inl, inr, ◌⊎◌, append-nil, append_assoc}
 use Rattle.std.specs.Prelude.{Option, Ok, Err}
 use Rattle.std.specs.declared.option.Option.TheVariants.{Some, None}
@@ -37,12 +37,12 @@ module _ {V : Type 0} (j : Meaning V) where
   abbrev pub walk : ℕ → WindowState → Script → Outcome
   walk i w script = outcome_from j i w script.0 script.1
 
-  -- the first command, and the walk behind it
+  -- the first command, and the walk after it
   pub walk_command : (i : ℕ) (w : WindowState) (c : Command) (line : ℕ) (old new : Script) → old ≡ with_command (c, line) new → walk i w old ≡ on_command j i w c line (λ next window. walk next window new)
   walk_command i w c line old new is = ap (λ (s : Script). walk i w s) is
 
-  -- serving stands between two commands, from the window `w` on: `gain` was written, and `past` are the bytes used since the
-  -- reader was made as `fresh`
+  -- serving is between two commands, from the window `w` on: `gain` was written, and `past` are the bytes used since
+  -- the reader was made as `fresh`
   pub record Stands {J T : Type 0} (w : WindowState) (most : ℕ) (fresh : Reading) (h : SessionView J T) (r : Reading) (first left before now : Option (List ℕ)) : Type 0 where
     pub gain : List ℕ
     pub past : List ℕ
@@ -51,14 +51,14 @@ module _ {V : Type 0} (j : Meaning V) where
     pub used : Uses fresh r first left past
     pub taken : r.ended ≡ false → (full : Bool) (x : List ℕ) → walk 1 w (from_line full ACommand 1 (past ++ x)) ≡ after_bytes gain (walk (h.engine.runs + 1) (state_of h) (from_line full ACommand (r.line + 1) x))
 
--- two facts of told bytes
+-- two facts of observable bytes
 told_both : (a b : Option (List ℕ)) (P Q : List ℕ → List ℕ → Type 0) → Told a b P → Told a b Q → Told a b (λ x y. P x y × Q x y)
 told_both None None P Q p q = tt
 told_both None (Some y) P Q p q = p
 told_both (Some x) None P Q p q = p
 told_both (Some x) (Some y) P Q p q = (p, q)
 
--- where a later test fails, an earlier one did
+-- if a later test fails, an earlier one did
 not_before : (a b : Bool) → (a ≡ true → b ≡ true) → b ≡ false → a ≡ false
 not_before true b grows is = sym (grows refl) ∙ is
 not_before false b grows is = refl
@@ -198,7 +198,7 @@ module _ {J T V : Type 0} (j : Meaning V) (w : WindowState) (most : ℕ) (fresh 
     taken = λ going full x. λ i. walk j (sym (ap (λ (n : ℕ). n + 1) zero) i) (sym window i) (from_line full ACommand (sym (ap (λ (n : ℕ). n + 1) line) i) x);
   }
 
--- a count that rose after it did not fall rose
+-- a count that did not decrease and then increased has increased
 rose_later : (first before now : ℕ) → first ≤ before → Rose before now → Rose first now
 rose_later first before now later rose = omega (arith, later, rose)
 

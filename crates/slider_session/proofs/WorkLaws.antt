@@ -5,14 +5,14 @@ use Rattle.job_laws.specs.declared.meter.Counts.{Counts}
 use Rattle.job_laws.specs.Rows.{Row, RowRose, sum_of}
 use Rattle.slider_session.specs.WorkLines.{IsMoreWork, work_of}
 
--- Counts that rise in each place rise together.
+-- Counts that increase at each place increase together.
 pub sums-rise : {M : Type 0} (count : M → ℕ) (old new : List M) → length old ≡ length new → ((i : ℕ) (d : M) → count (slice_index_or old i d) ≤ count (slice_index_or new i d)) → sum_of count old ≤ sum_of count new
 sums-rise count [] [] same rise = omega arith
 sums-rise count [] (n ∷ ns) same rise = omega arith
 sums-rise count (m ∷ ms) [] same rise = absurd (omega (arith, same))
 sums-rise count (m ∷ ms) (n ∷ ns) same rise = let here = rise zero m in let rest = sums-rise count ms ns (omega (arith, same)) (λ i d. rise (suc i) d) in omega (arith, here, rest)
 
--- Where each meter of a row rose in its place, there is no less work.
+-- If no meter of a row decreased at its place, there is no less work.
 pub more-work : {M : Type 0} (counts : M → Counts) (n : ℕ) (old new : Row M) → (length old.lanes ≡ n) × (length old.parts ≡ n) → (length new.lanes ≡ n) × (length new.parts ≡ n) → RowRose counts old new → IsMoreWork (work_of counts old) (work_of counts new)
 more-work counts n old new before now rose = record {
   maps = sums-rise (λ m. (counts m).maps) old.lanes new.lanes (before.0 ∙ sym now.0) (λ i d. (rose.lanes i d).0);

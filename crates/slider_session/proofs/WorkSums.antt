@@ -3,11 +3,11 @@ use Rattle.std.proofs.Common.{◌≡◌, List, [], ◌∷◌, ◌++◌, ap, ◌�
 use Rattle.slider_session.specs.WorkLines.{work_between, no_work, with_work, all_work, IsMoreWork}
 use Rattle.slider_session.specs.declared.work.Work.{Work}
 
--- work is the same where each count is
+-- work is the same if each count is
 same_work : (a b : Work) → a.maps ≡ b.maps → a.merges ≡ b.merges → a.joins ≡ b.joins → a ≡ b
 same_work a b maps merges joins = λ i. record { maps = maps i; merges = merges i; joins = joins i }
 
--- nothing rose
+-- nothing increased
 pub none_between : (a : Work) → no_work ≡ work_between a a
 none_between a = same_work no_work (work_between a a) (omega arith) (omega arith) (omega arith)
 
@@ -21,14 +21,14 @@ more_then a b c p q =
     let q0 = q.maps in let q1 = q.merges in let q2 = q.joins in
     record { maps = omega (arith, p0, q0); merges = omega (arith, p1, q1); joins = omega (arith, p2, q2) }
 
--- what rose, and then rose more
+-- what increased, and then increased more
 pub between_then : (a b c : Work) → IsMoreWork a b → IsMoreWork b c → with_work (work_between a b) (work_between b c) ≡ work_between a c
 between_then a b c p q =
     let p0 = p.maps in let p1 = p.merges in let p2 = p.joins in
     let q0 = q.maps in let q1 = q.merges in let q2 = q.joins in
     same_work (with_work (work_between a b) (work_between b c)) (work_between a c) (omega (arith, p0, q0)) (omega (arith, p1, q1)) (omega (arith, p2, q2))
 
--- what rose is no more than what rose in all
+-- an increase is at most the total increase
 pub between_within : (a b c : Work) → IsMoreWork b c → IsMoreWork (work_between a b) (work_between a c)
 between_within a b c q =
     let q0 = q.maps in let q1 = q.merges in let q2 = q.joins in

@@ -1,5 +1,5 @@
--- What the runs of a script cost at the most: each by the leaves that are new since the run before it, and by the bound of
--- the trees for its shift.
+-- What the runs of a script cost at most: each by the leaves that are new since the run before it, and by the trees'
+-- bound for its shift.
 use Rattle.std.specs.Prelude.{◌≡◌, ℕ, ◌+◌, ◌*◌, List, [], ◌∷◌, length, slice_index_or, ◌⊎◌}
 use Rattle.definitions.specs.Tables.{keys_of}
 use Rattle.definitions.specs.Answer.{pairs_of}
@@ -25,7 +25,8 @@ pub record Standing : Type 0 where
 abbrev pub before_runs : WindowView → Standing
 before_runs w = record { shape = no_shape; leaves = []; window = w }
 
--- The most that is counted: maps and joins of all lanes together, merges of each part, and joins of all parts together.
+-- The most that meters may count: maps and joins of all lanes together, merges of each part, and joins of all parts
+-- together.
 pub record Costs : Type 0 where
   pub maps : ℕ
   pub lane_joins : ℕ
@@ -36,11 +37,11 @@ pub record Costs : Type 0 where
 abbrev pub no_costs : Costs
 no_costs = record { maps = 0; lane_joins = 0; merges = 0; part_joins = 0 }
 
--- Costs with more costs.
+-- The sum of two costs.
 abbrev pub with_costs : Costs → Costs → Costs
 with_costs a b = record { maps = a.maps + b.maps; lane_joins = a.lane_joins + b.lane_joins; merges = a.merges + b.merges; part_joins = a.part_joins + b.part_joins }
 
--- The meters rose by no more than the costs.
+-- The meters increased by no more than the costs.
 pub record CostAtMost {M : Type 0} (counts : M → Counts) (cost : Costs) (old new : Row M) : Type 0 where
   pub rose : RowRose counts old new
   pub maps : RoseWithin cost.maps (sum_of (λ m. (counts m).maps) old.lanes) (sum_of (λ m. (counts m).maps) new.lanes)
@@ -67,16 +68,16 @@ module _ {V : Type 0} (j : Meaning V) (bound : ℕ → Shape → ℕ → Shift �
   abbrev pub after_run : Standing → Standing
   after_run s = record { shape = shaped s.shape (shift_of s.window); leaves = s.window.window.leaves; window = view_anew s.window }
 
-  -- What a command costs, and what stands behind it: a run its own costs, and any other nothing.
+  -- What a command and those after it cost: a run its own costs, any other command nothing.
   abbrev pub CommandCosts : Command → Standing → Costs → Standing → Type 0
   CommandCosts Run s cost t = (cost ≡ run_costs s) × (t ≡ after_run s)
   CommandCosts c s cost t = (cost ≡ no_costs) × IsDone s.window t.window c × (t ≡ record s { window = t.window })
 
-  -- What the first commands cost together, as many as were carried out.
+  -- What the first commands cost together, up to some command or all of them.
   abbrev pub CommandsCost : Standing → List (Command × ℕ) → Costs → Type 0
   CommandsCost s [] cost = cost ≡ no_costs
   CommandsCost s (c ∷ cs) cost = (cost ≡ no_costs) ⊎ ((first : Costs) × (t : Standing) × (rest : Costs) × CommandCosts c.0 s first t × CommandsCost t cs rest × (cost ≡ with_costs first rest))
 
-  -- The meters rose by no more than the first commands cost.
+  -- The meters increased by no more than the first commands cost.
   abbrev pub ScriptCosts : {M : Type 0} → (M → Counts) → WindowView → List (Command × ℕ) → Row M → Row M → Type 0
   ScriptCosts counts w commands old new = (cost : Costs) × CommandsCost (before_runs w) commands cost × CostAtMost counts cost old new

@@ -21,15 +21,16 @@ Outcome = List ℕ × Ending
 abbrev pub after_bytes : List ℕ → Outcome → Outcome
 after_bytes bytes o = (bytes ++ o.0, o.1)
 
--- The first line of run i, over so many keys.
+-- The first line of run i, with the number of keys.
 abbrev pub header : ℕ → ℕ → List ℕ
 header i keys = codes "# run " ++ decimal i ++ (codes " keys " ++ decimal keys ++ codes "\n")
 
--- A fault is one of the script itself: no device failed, and memory did not run out.
+-- The fault is of the script itself: no device failed, and memory did not run out.
 abbrev pub IsOfScript : Why → Type 0
 IsOfScript why = (why ≢ Whys.Read) × (why ≢ Whys.Mem)
 
--- How a script ends at the command on a line that the window refuses: at that line, or at the record's.
+-- How a script ends at the command on a line that the window refuses: at that line, or at the line of the refused
+-- record.
 abbrev pub ended_by : ℕ → WindowFault → Ending
 ended_by line Faults.NotHere = Faulty line Whys.NotHere
 ended_by line Faults.TooMany = Faulty line Whys.TooMany
@@ -37,12 +38,12 @@ ended_by line (Faults.BadRecord index) = Faulty (line + 1 + index) Whys.BadRecor
 ended_by line Faults.WindowLarge = Faulty line Whys.WindowLarge
 ended_by line Faults.Mem = Faulty line Whys.Mem
 
--- Nothing behind a command that the window refuses, or else as many.
+-- None after a command that the window refuses, otherwise the given number.
 abbrev pub none_if_refused : Option WindowFault → ℕ → ℕ
 none_if_refused None rest = rest
 none_if_refused (Some fault) rest = 0
 
--- A command on a line that the window refuses, or else what comes behind it.
+-- How a script ends at a command on a line that the window refuses, otherwise what comes after it.
 abbrev pub unless_refused : Option WindowFault → ℕ → Outcome → Outcome
 unless_refused None line rest = rest
 unless_refused (Some fault) line rest = ([], ended_by line fault)
@@ -56,7 +57,8 @@ module _ {V : Type 0} (j : Meaning V) where
   abbrev pub piece : ℕ → WindowState → List ℕ
   piece i w = piece_over i (present w)
 
-  -- A command on a line, before run i over a window, where `go` says how the script goes on with the next run and the window.
+  -- A command on a line, before run i over a window, where `go` says how the script goes on with the next run and the
+  -- window.
   abbrev pub on_command : ℕ → WindowState → Command → ℕ → (ℕ → WindowState → Outcome) → Outcome
   on_command i w Run line go = after_bytes (piece i w) (go (i + 1) w)
   on_command i w c line go = unless_refused (refusal_of j.accepts w c) line (go i (window_after w c))
@@ -78,7 +80,7 @@ module _ {V : Type 0} (j : Meaning V) where
   abbrev pub ending_of : WindowState → Script → Ending
   ending_of w script = (outcome_of w script).1
 
-  -- How many runs are answered from a command on, where `go` says how many are from the window behind it on.
+  -- How many runs are answered from a command on, where `go` says how many are from the window after it on.
   abbrev pub runs_on : WindowState → Command → (WindowState → ℕ) → ℕ
   runs_on w Run go = go w + 1
   runs_on w c go = none_if_refused (refusal_of j.accepts w c) (go (window_after w c))

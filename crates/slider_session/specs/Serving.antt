@@ -29,7 +29,7 @@ IsServed (Err Halts.Write) = ⊥
 IsServed (Err Halts.Mem) = ⊥
 
 module _ {V : Type 0} (j : Meaning V) (w : WindowState) (most : ℕ) where
-  -- The output of a script was written behind what the sink held before.
+  -- The output of a script was written after what the sink held before.
   abbrev pub Writes : List ℕ → Option (List ℕ) → Option (List ℕ) → Type 0
   Writes script before now = Told before now (λ old new. new ≡ old ++ output_of j w (commands most script))
 
@@ -41,8 +41,8 @@ module _ {V : Type 0} (j : Meaning V) (w : WindowState) (most : ℕ) where
   abbrev pub AtFault : ℕ → Why → List ℕ → Option (List ℕ) → Option (List ℕ) → Type 0
   AtFault line why script before now = (ending_of j w (commands most script) ≡ Faulty line why) × Writes script before now
 
-  -- Of the script some bytes were taken: the output of these up to their last LF was written, and it is a prefix of the
-  -- script's.
+  -- Some bytes of the script were taken: the output of these up to their last LF was written, and it is a prefix of the
+  -- script's output.
   pub record OfTaken (script after : List ℕ) (before now : Option (List ℕ)) : Type 0 where
     pub bytes : List ℕ
     pub taken : script ≡ bytes ++ after
@@ -53,7 +53,8 @@ module _ {V : Type 0} (j : Meaning V) (w : WindowState) (most : ℕ) where
   abbrev pub WritesPrefix : List ℕ → Option (List ℕ) → Option (List ℕ) → Type 0
   WritesPrefix script before now = Told before now (GainsPrefix (output_of j w (commands most script)))
 
-  -- What each answer says of a script that a source had `left` when it has `rest`, and of its output on a sink.
+  -- What each result says about a script of which a source had `left` and now has `rest`, and about its output on a
+  -- sink.
   abbrev pub EndsSo : DeviceView → DeviceView → DeviceView → DeviceView → Result (Unit {0}) Halt → Type 0
   EndsSo left rest before now (Ok done) = Told left.bytes rest.bytes (λ script after. Whole script after before.bytes now.bytes)
   EndsSo left rest before now (Err (Halts.Script fault)) = Told left.bytes rest.bytes (λ script after. AtFault fault.line fault.why script before.bytes now.bytes) × IsOfScript fault.why
@@ -67,9 +68,9 @@ module _ {V : Type 0} (j : Meaning V) (w : WindowState) (most : ℕ) where
     pub source_later : left.faults ≤ rest.faults
     pub sink_later : before.faults ≤ now.faults
 
-  -- What was said on `err` for a script that a source had `left`: the work line of each run that was answered was tried,
-  -- where they are asked for. The work of these runs is no more than the meters rose by, and exactly so much where the
-  -- script was served to its end or its fault.
+  -- What was written to `err` for a script that a source had `left`: the work line of each run that was answered was
+  -- tried, if work lines are asked for. The work of these runs is at most what the meters increased by, and exactly
+  -- that if the script was served to its end or its fault.
   pub record ScriptSaid {M : Type 0} (counts : M → Counts) (asked : Bool) (left : Option (List ℕ)) (old new : Row M) (before now : DeviceView) (result : Result (Unit {0}) Halt) : Type 0 where
     pub works : List Work
     pub tried : AreTried (IsServed result) (asked_lines asked 1 works) before now
@@ -78,14 +79,14 @@ module _ {V : Type 0} (j : Meaning V) (w : WindowState) (most : ℕ) where
     pub within : IsMoreWork (all_work works) (work_between (work_of counts old) (work_of counts new))
     pub exact : IsServed result → all_work works ≡ work_between (work_of counts old) (work_of counts new)
 
--- The halt that a reader's fault is.
+-- The halt for a fault of the reader.
 abbrev pub HaltIs : ScriptFault → Halt → Type 0
 HaltIs fault (Halts.Script f) = (f ≡ fault) × IsOfScript fault.why
 HaltIs fault Halts.Read = fault.why ≡ Read
 HaltIs fault Halts.Write = ⊥
 HaltIs fault Halts.Mem = fault.why ≡ Mem
 
--- The halt that a refusal of the window on a line is.
+-- The halt for a refusal of the window at a line.
 abbrev pub RefusalIs : ℕ → WindowFault → Halt → Type 0
 RefusalIs line Faults.Mem halt = halt ≡ Halts.Mem
 RefusalIs line refused (Halts.Script fault) = (ended_by line refused ≡ Faulty fault.line fault.why) × IsOfScript fault.why

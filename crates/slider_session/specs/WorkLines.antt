@@ -1,11 +1,11 @@
--- The work of runs, and the lines that say it.
+-- The work of runs, and the lines that report it.
 use Rattle.std.specs.Prelude.{ℕ, ◌+◌, ◌-◌, ◌≤◌, Bool, true, false, List, [], ◌∷◌, ◌++◌, codes, decimal}
 use Rattle.job_laws.specs.declared.meter.Counts.{Counts}
 use Rattle.job_laws.specs.Rows.{Row, sum_of}
 use Rattle.slider_session.specs.declared.work.Work.{Work}
 
 module _ {M : Type 0} (counts : M → Counts) where
-  -- What the meters say: the maps of all lanes, and the merges and joins of all parts.
+  -- The counts of the meters: the maps of all lanes, and the merges and joins of all parts.
   abbrev pub work_of : Row M → Work
   work_of row = record {
     maps = sum_of (λ m. (counts m).maps) row.lanes;
@@ -13,7 +13,7 @@ module _ {M : Type 0} (counts : M → Counts) where
     joins = sum_of (λ m. (counts m).joins) row.parts;
   }
 
--- By how much work rose.
+-- By how much work increased.
 abbrev pub work_between : Work → Work → Work
 work_between old new = record { maps = new.maps - old.maps; merges = new.merges - old.merges; joins = new.joins - old.joins }
 
@@ -21,7 +21,7 @@ work_between old new = record { maps = new.maps - old.maps; merges = new.merges 
 abbrev pub no_work : Work
 no_work = record { maps = 0; merges = 0; joins = 0 }
 
--- Work with more work.
+-- The sum of two works.
 abbrev pub with_work : Work → Work → Work
 with_work a b = record { maps = a.maps + b.maps; merges = a.merges + b.merges; joins = a.joins + b.joins }
 
@@ -30,7 +30,7 @@ abbrev pub all_work : List Work → Work
 all_work [] = no_work
 all_work (w ∷ ws) = with_work w (all_work ws)
 
--- It is as much work, or more of some kind.
+-- No kind of work is less.
 pub record IsMoreWork (old new : Work) : Type 0 where
   pub maps : old.maps ≤ new.maps
   pub merges : old.merges ≤ new.merges
@@ -45,7 +45,7 @@ abbrev pub work_lines : ℕ → List Work → List (List ℕ)
 work_lines i [] = []
 work_lines i (w ∷ ws) = work_line i w ∷ work_lines (i + 1) ws
 
--- The work lines of runs where they are asked for.
+-- The work lines of runs, if they are asked for.
 abbrev pub asked_lines : Bool → ℕ → List Work → List (List ℕ)
 asked_lines false i ws = []
 asked_lines true i ws = work_lines i ws

@@ -12,7 +12,8 @@ use sheets::{Sheet, answer_of};
 use std::alloc::{AllocError, Global};
 use tree_laws::Tree;
 
-/// What run number `run` writes, by the roots of an engine's last run. It walks all entries once and copies no table.
+/// The bytes that run number `run` writes, from the roots of an engine's last run. It walks all entries once and copies
+/// no table.
 pub(crate) fn piece_of<J: Job, T: Tree<J>>(
     alloc: Global,
     engine: &Engine<J, T>,
@@ -48,7 +49,7 @@ fn roots_of<J: Job, T: Tree<J>>(
     Ok(roots)
 }
 
-/// The header of a run over so many keys, and their lines.
+/// The header of a run, with the number of keys, and their lines.
 fn bytes_of(alloc: Global, run: u64, keys: u64, lines: &[u8]) -> Result<Vec<u8>, AllocError>
     ensures { IfOk result (λ bytes. bytes.items ≡ header run keys ++ lines.now) }
 {

@@ -10,6 +10,6 @@ pub enum Halt {
     Read,
     /// The sink failed.
     Write,
-    /// Want of memory.
+    /// Out of memory.
     Mem,
 }

@@ -23,7 +23,7 @@ use std::sync::Wait;
 use std::thread::Threads;
 use tree_laws::Tree;
 
-/// The halt that a reader's fault is.
+/// The halt for a fault of the reader.
 fn halt_of(fault: ScriptFault) -> Halt
     ensures { HaltIs fault result }
 {
@@ -34,10 +34,15 @@ fn halt_of(fault: ScriptFault) -> Halt
     }
 }
 
-/// Serves the script that a source has left, from the empty window of a tree's kind on: each command is carried out before
-/// the next one is read, so each run is answered before more is asked of the source. With `work` each run's work line is
-/// tried on `err`. It stops at the script's first fault, at a failure of the source or of the sink, or for want of memory.
-/// Each run costs the leaves that changed since the run before it, the paths above them, and one walk over the answer.
+/// Serves the script that a source has left, from the empty window of a tree's kind on. Each command is carried out
+/// before the next one is read, so each run is answered before more of the source is taken. With `work` each run's work
+/// line is tried on `err`. A run costs the leaves that changed since the run before it, the paths above them, and one
+/// walk over the answer. It may block.
+///
+/// # Errors
+///
+/// The script's first fault, a failed read, a failed write, or out of memory; serving stops there. At a fault and at a
+/// failed read all runs before it are written.
 pub fn serve<
     J: Job + Send + Sync,
     T: Tree<J> + Send,
@@ -73,7 +78,7 @@ where
     };
     let mut reader = ScriptReader::new(source, alloc, MOST_SCRIPT);
 
-    // At each end the session goes first, so that what the reader hands back is the last that happens.
+    // At each exit the session is dropped first, so that giving the source back is the last step.
     'commands: loop {
         let command = match reader.next(alloc) {
             Ok(Some(command)) => command,

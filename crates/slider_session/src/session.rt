@@ -27,8 +27,8 @@ use std::thread::Threads;
 use tree_laws::Tree;
 use window_manager::{Window, WindowFault};
 
-/// The window of one script, and the engine that answers its runs. A command of the window costs what the window takes for
-/// it; a run costs the leaves that changed since the last one, the paths above them, and one walk over the answer.
+/// The window of one script, and the engine that answers its runs. A run costs the leaves that changed since the last
+/// one, the paths above them, and one walk over the answer; any other command costs what it costs the window.
 #[derive(Drop)]
 pub struct Session<J: Job, T: Tree<J>> {
     alloc: Global,
@@ -67,14 +67,14 @@ impl<J: Job, T: Tree<J>> Session<J, T> {
         })
     }
 
-    /// Carries out the command that stands on a line of the script. A run writes its number, how many keys the window
-    /// has, and the lines of each key in byte order, and with `work` then tries its work line on `err`; any other command
-    /// changes the window, or is refused on its line, and touches neither the sinks nor the meters.
+    /// Carries out the command on a line of the script. A run writes its number, the number of keys, and the lines of
+    /// each key in byte order, and with `work` then tries its work line on `err`; any other command changes the window,
+    /// or is refused at its line, and touches neither the sinks nor the meters. It may block.
     ///
     /// # Errors
     ///
-    /// The script's fault where the window refuses the command; a failed write, after which the run stands; want of memory,
-    /// after which the run stands or was not made.
+    /// The script's fault if the window refuses the command; a failed write, after which the run is kept; out of
+    /// memory, after which the run is kept or was not made.
     pub fn step<K: Sink, E: Sink, G: Gate, R: Threads + Wait + Sync>(
         &mut self,
         rt: &R,
@@ -104,7 +104,7 @@ impl<J: Job, T: Tree<J>> Session<J, T> {
         }
     }
 
-    /// Has the window carry out a command.
+    /// Carries out a command on the window. Its only error is that the window refuses the command, or is out of memory.
     fn change(&mut self, c: Command, line: u64) -> Result<(), Halt>
         requires line { line ≤ 2 ^ 62 }
         requires accepted { accepted_of self.old < 2 ^ 63 }
@@ -116,7 +116,8 @@ impl<J: Job, T: Tree<J>> Session<J, T> {
         }
     }
 
-    /// Answers the next run: all of its bytes are gathered, and then written; then its work line is tried.
+    /// Answers the next run: gathers all of its bytes, writes them, and then tries its work line. It fails if the write
+    /// does, or out of memory.
     fn answer<K: Sink, E: Sink, G: Gate, R: Threads + Wait + Sync>(
         &mut self,
         rt: &R,
@@ -156,7 +157,7 @@ impl<J: Job, T: Tree<J>> Session<J, T> {
         self.try_work(err, &before, &now)
     }
 
-    /// Writes the answer of the last run.
+    /// Writes the answer of the last run. It fails if the write does, or out of memory.
     fn write_answer<K: Sink>(&self, out: &mut K) -> Result<(), Halt>
         ensures written { AnswerWritten (piece_over (meaning_of J.Job self.now.engine.job) self.now.engine.runs (joined self.now.engine.leaves)) (sink_view K.Sink out.old) (sink_view K.Sink out.new) result }
     {
@@ -172,7 +173,7 @@ impl<J: Job, T: Tree<J>> Session<J, T> {
         }
     }
 
-    /// Tries the work line of the last run on `err`.
+    /// Tries the work line of the last run on `err`. It fails only out of memory.
     fn try_work<E: Sink>(&self, err: &mut E, before: &Work, now: &Work) -> Result<(), Halt>
         requires { IsMoreWork before.now now.now }
         ensures tried { LineTried (work_line self.now.engine.runs (work_between before.now now.now)) (sink_view E.Sink err.old) (sink_view E.Sink err.new) result }
@@ -189,7 +190,7 @@ impl<J: Job, T: Tree<J>> Session<J, T> {
     }
 }
 
-/// The halt that a refusal of the command on a line is.
+/// The halt for a refusal of the command on a line.
 fn halt_of_refusal(line: u64, refused: WindowFault) -> Halt
     requires { line ≤ 2 ^ 62 }
     ensures { RefusalIs line refused result }

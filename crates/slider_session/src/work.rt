@@ -1,4 +1,4 @@
-//! How much work runs took, as their work lines say it.
+//! How much work runs took, as their work lines report it.
 ghost use Rattle.std.specs.Prelude.{◌≡◌, length, string_bytes, IfOk};
 ghost use Rattle.slider_session.specs.WorkLines.{work_of, work_between, work_line, IsMoreWork};
 
@@ -14,7 +14,7 @@ pub struct Work {
 }
 
 impl Work {
-    /// What the meters say.
+    /// The counts of the meters.
     pub(crate) fn of<M: Meter>(meters: &MeterRow<M>) -> Work
         ensures work { result ≡ work_of M.counts meters.now }
         ensures counts { (length meters.now.lanes ≡ 16) × (length meters.now.parts ≡ 16) }

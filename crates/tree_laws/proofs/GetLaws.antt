@@ -1,4 +1,4 @@
--- Pins that a caller gets one call after another, and holds that come with them.
+-- Pins that a caller gets one call after another, and the holds that come with them.
 use Rattle.std.proofs.Common.{◌≡◌, ◌⊎◌, inl, inr, ℕ, ◌||◌, Bool, true, false, List, [], ◌∷◌, ◌++◌, refl, sym, ap, subst, ◌∙◌, append-nil}
 use Rattle.std.specs.List.{list_any}
 use Rattle.std.proofs.lemmas.Bool.{or_cases}
@@ -28,7 +28,7 @@ gets-then u v w ps qs g h = (got-then u v w ps qs g.0 h.0, given-append w ps qs 
 pub gets-covered : (u v : CallerView) (ps : List PinName) → Gets u ps v → Covered v ps
 gets-covered u v ps g = covered-then u v [] ps (covered-none u) (got-balanced u v [] ps g.0) g.1
 
--- All that was got is given up.
+-- All new pins are given up.
 pub gets-undone : (u v w : CallerView) (ps : List PinName) → Gets u ps v → ((qs : List PinName) → Balanced v (ps ++ qs) w qs) → Balanced u [] w []
 gets-undone u v w ps g gone = balanced-then u v w [] ps [] (got-balanced u v [] ps g.0) (subst (λ (qs : List PinName). Balanced v qs w []) (append-nil ps) (gone []))
 
@@ -36,7 +36,7 @@ module _ {J V M : Type 0} (digest_of : PairOf V → List ℕ) (pair : PairOf V) 
   pub gets-push : Gets u (all_pins digest_of hs) v → Gets u (all_pins digest_of new) w
   gets-push g = subst (λ (xs : List (Hold J V M)). Gets u (all_pins digest_of xs) w) (sym pushed) (got-push digest_of pair u v w hs h g held)
 
-  -- One of the holds is loose only where what makes one so was met.
+  -- One of the holds is loose only if what makes a hold loose was met.
   pub loose-push : IsLater u v → (list_any is_loose hs ≡ true → Met u v) → list_any is_loose new ≡ true → Met u w
   loose-push before met is = go (or_cases (list_any is_loose hs) (list_any is_loose (h ∷ [])) (sym (list_any-append is_loose hs (h ∷ [])) ∙ (sym (ap (list_any is_loose) pushed) ∙ is)))
     where
@@ -48,6 +48,6 @@ module _ {J V M : Type 0} (digest_of : PairOf V → List ℕ) (pair : PairOf V) 
       go (inl old) = any-met-later u v w held.got.later (met old)
       go (inr one) = any-met-before u v w before held.got.later (there (digest_of pair) v, held.loose (last (is_loose h) one))
 
--- So it is after a call that gave nothing.
+-- The same after a call that gave nothing.
 pub loose-after : {J V M : Type 0} (u v w : CallerView) (hs new : List (Hold J V M)) → new ≡ hs → (list_any is_loose hs ≡ true → Met u v) → Got v [] w → list_any is_loose new ≡ true → Met u w
 loose-after u v w hs new same met got is = any-met-later u v w got.later (met (sym (ap (list_any is_loose) same) ∙ is))

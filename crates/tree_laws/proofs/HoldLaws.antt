@@ -33,7 +33,7 @@ module _ {J V M : Type 0} (digest_of : PairOf V → List ℕ) where
   pin-after pair u v w (Pinned p) a b k = (k.0, ap (list_any (gave p.id (digest_of pair))) (gained-then (digest_of pair) u v w a b) ∙ any-later (gave p.id (digest_of pair)) (gained (digest_of pair) u v) (gained (digest_of pair) v w) k.1)
   pin-after pair u v w (Loose s) a b k = tt
 
-  -- A hold that was got after a call that gave none.
+  -- A hold that comes after a call that gave none.
   pub held-after : (pair : PairOf V) (es : List Event) (u v w : CallerView) (h : Hold J V M) → Quiet (digest_of pair) es u v → IsHeld digest_of pair v w h → IsHeld digest_of pair u w h
   held-after pair es u v w h q k = record {
     got = got-then u v w [] (hold_pins digest_of h) q.got k.got;
@@ -47,7 +47,7 @@ module _ {J V M : Type 0} (digest_of : PairOf V → List ℕ) where
   all_pins-push [] h = append-nil (hold_pins digest_of h)
   all_pins-push (g ∷ hs) h = ap (λ (ps : List PinName). hold_pins digest_of g ++ ps) (all_pins-push hs h) ∙ sym (append_assoc (hold_pins digest_of g) (all_pins digest_of hs) (hold_pins digest_of h))
 
-  -- A hold that was got after those of a list.
+  -- A hold that comes after those of a list.
   pub got-push : (pair : PairOf V) (u v w : CallerView) (hs : List (Hold J V M)) (h : Hold J V M) → Got u (all_pins digest_of hs) v × AreGiven v (all_pins digest_of hs) → IsHeld digest_of pair v w h → Got u (all_pins digest_of (hs ++ h ∷ [])) w × AreGiven w (all_pins digest_of (hs ++ h ∷ []))
   got-push pair u v w hs h before held =
       let is = sym (all_pins-push hs h) in (
@@ -55,7 +55,7 @@ module _ {J V M : Type 0} (digest_of : PairOf V → List ℕ) where
         subst (AreGiven w) is (given-append w (all_pins digest_of hs) (hold_pins digest_of h) (all-given-later v w (all_pins digest_of hs) held.got.later before.1) held.given),
       )
 
-  -- The last hold of a list is let go.
+  -- The last hold of a list is given up.
   module _ (v w : CallerView) (hs rest : List (Hold J V M)) (h : Hold J V M) (is : hs ≡ rest ++ h ∷ []) where
     pins_are : all_pins digest_of hs ≡ all_pins digest_of rest ++ hold_pins digest_of h
     pins_are = ap (all_pins digest_of) is ∙ all_pins-push rest h

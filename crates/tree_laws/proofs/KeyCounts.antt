@@ -20,7 +20,7 @@ module _ {V : Type 0} where
     | Some v ↦ let h = length-tabulate f ks in omega arith
   ]
 
-  -- A table has no more entries than there are keys in tables that have all of its keys.
+  -- A table has at most as many entries as there are keys in tables that have all of its keys.
   pub length-within : (t : List (List ℕ × V)) (ts : List (List (List ℕ × V))) → IsRising t → IsWithin t ts → length t ≤ distinct_keys ts
   length-within t ts rising within =
       let all = end_to_end ts in
@@ -42,7 +42,7 @@ module _ {V : Type 0} where
   either-right None b h = h
   either-right (Some v) b h = absurd (let no : Some v ≡ None = h in cc)
 
-  -- A table of the tables, and one of those after it.
+  -- A table of the list, and one of those after it.
   pub within-first : (t : List (List ℕ × V)) (ts : List (List (List ℕ × V))) → IsWithin t (t ∷ ts)
   within-first t ts key none = either-left (value_at t key) (value_at (end_to_end ts) key) (sym (value_at-append t (end_to_end ts) key) ∙ none)
 

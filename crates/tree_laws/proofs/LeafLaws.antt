@@ -1,4 +1,4 @@
--- Leaves under merges: what stands over them, and what one merge more costs.
+-- Leaves under merges: the merge over them, and what one merge more costs.
 use Rattle.std.proofs.Common.{◌≡◌, ℕ, suc, zero, ◌+◌, ◌*◌, ◌<◌, ◌≤◌, List, [], ◌∷◌, ◌++◌, length, map, Option, Some, None, refl, sym, ap, subst, ◌∙◌, arith}
 use Rattle.std.specs.List.{All}
 use Rattle.std.proofs.lemmas.List.{map-append, length-map}
@@ -38,7 +38,7 @@ module _ {V : Type 0} (good : ℕ → V → Type 0) (joined : ℕ → V → V �
             ∙ ap (λ (t : List (List ℕ × V)). Some t) at),
       )
 
-  -- Leaves with a merge over them are some.
+  -- There are leaves if there is a merge over them.
   pub over-some : (us : List (SheetOf V)) (a : SheetOf V) → IsMergeOver joined setting (tables_of us) (Some a) → 1 ≤ length us
   over-some [] a over = absurd (let no : None ≡ Some a.entries = over.1 in cc)
   over-some (u ∷ us) a over = omega arith
@@ -59,7 +59,7 @@ module _ {V : Type 0} (good : ℕ → V → Type 0) (joined : ℕ → V → V �
   within-over [] a ts x over = absurd (let no : None ≡ Some a.entries = over.1 in cc)
   within-over (u ∷ us) a ts x over = within-fold u.entries us ts (All-head (λ (s : SheetOf V). IsWithin s.entries ts) u us x) (All-tail (λ (s : SheetOf V). IsWithin s.entries ts) u us x) a.entries over.1
 
-  -- A merge joins no more than the distinct keys.
+  -- A merge joins at most the distinct keys.
   pub cost-within : (us : List (SheetOf V)) (a b : SheetOf V) (ts : List (List (List ℕ × V))) → All (IsLeaf good setting) us → All (λ (s : SheetOf V). IsWithin s.entries ts) us → IsMergeOver joined setting (tables_of us) (Some a) → common_keys a.entries b.entries ≤ distinct_keys ts
   cost-within us a b ts x w over = common-within a.entries b.entries ts (rising-over us a x over) (within-over us a ts w over)
 
@@ -82,15 +82,15 @@ module _ {V : Type 0} where
   all-within (u ∷ us) = All-cons (λ (s : SheetOf V). IsWithin s.entries (tables_of (u ∷ us))) u us (within-first u.entries (tables_of us))
       (All-weaker (λ (s : SheetOf V). IsWithin s.entries (tables_of us)) (λ (s : SheetOf V). IsWithin s.entries (tables_of (u ∷ us))) (λ s w. within-next s.entries u.entries (tables_of us) w) us (all-within us))
 
--- One merge more, each of which joins at most so many keys.
+-- One merge more, where each joins at most k keys.
 pub merged-more : (n k j : ℕ) (x y z : Counts) → j ≤ k → RoseBy 0 n (n * k) x y → RoseBy 0 1 j y z → RoseBy 0 (n + 1) ((n + 1) * k) x z
 merged-more n k j x y z le a b = rose_more 0 (n + 1) (n * k + j) 0 (n + 1) ((n + 1) * k) x z (omega arith) (omega arith) (omega arith) (rose_then 0 n (n * k) 0 1 j x y z a b)
 
--- A bound that is no less.
+-- A greater bound.
 pub merged-within : (n m k : ℕ) (x y : Counts) → n ≤ m → RoseBy 0 n (n * k) x y → RoseBy 0 m (m * k) x y
 merged-within n m k x y le a = rose_more 0 n (n * k) 0 m (m * k) x y (omega arith) le (let h = mul-le-mul_left k le in omega (arith, h)) a
 
--- Merges, and then more, each of which joins at most so many keys.
+-- Merges, and then more, where each joins at most k keys.
 pub rose-more : (n m k : ℕ) (x y z : Counts) → RoseBy 0 n (n * k) x y → RoseBy 0 m (m * k) y z → RoseBy 0 (n + m) ((n + m) * k) x z
 rose-more n m k x y z a b = rose_more 0 (n + m) (n * k + m * k) 0 (n + m) ((n + m) * k) x z (omega arith) (omega arith) (sums n m k) (rose_then 0 n (n * k) 0 m (m * k) x y z a b)
   where

@@ -1,4 +1,4 @@
--- Pins that are given up for others: one trade after another, and beside pins that stay.
+-- Pins that are given up for others: one trade after another, and in addition to pins that stay.
 use Rattle.std.proofs.Common.{◌≡◌, ℕ, ◌+◌, List, [], ◌∷◌, ◌++◌, refl, sym, ap, subst, ◌∙◌, append-nil, append_assoc, arith}
 use Rattle.pin_table.specs.Views.{CallerView}
 use Rattle.pin_table.specs.Covers.{PinName, AreGiven, Covered, Balanced, Got, IsLater, count}
@@ -11,7 +11,7 @@ trades-same v ps = record { balanced = balanced-same v ps; given = λ g. g }
 pub trades-then : (u v w : CallerView) (ps qs rs : List PinName) → Trades u ps v qs → Trades v qs w rs → Trades u ps w rs
 trades-then u v w ps qs rs a b = record { balanced = balanced-then u v w ps qs rs a.balanced b.balanced; given = λ g. b.given (a.given g) }
 
--- Beside pins that stay.
+-- In addition to pins that stay.
 pub trades-beside : (v w : CallerView) (os ps qs : List PinName) → Trades v ps w qs → Trades v (os ++ ps) w (os ++ qs)
 trades-beside v w os ps qs a = record {
   balanced = balanced-beside v w os ps qs a.balanced;
@@ -31,14 +31,14 @@ trades-both u v w ps qs rs ss a b = trades-then u v w (ps ++ qs) (rs ++ qs) (rs 
 pub trades-covered : (v w : CallerView) (ps qs : List PinName) → Trades v ps w qs → Covered v ps → Covered w qs
 trades-covered v w ps qs t c = covered-then v w ps qs c t.balanced (t.given c.given)
 
--- What was got was traded for nothing.
+-- New pins are traded for nothing.
 pub trades-got : (v w : CallerView) (ps : List PinName) → Got v ps w → AreGiven w ps → Trades v [] w ps
 trades-got v w ps got given = record { balanced = got-balanced v w [] ps got; given = λ _. given }
 
 pub got-covered_all : (v w : CallerView) (ps : List PinName) → Trades v [] w ps → Covered w ps
 got-covered_all v w ps t = trades-covered v w [] ps t (covered-none v)
 
--- What is let go is traded for nothing.
+-- Pins that are given up are traded for nothing.
 pub trades-gone : (v w : CallerView) (ps : List PinName) → ((qs : List PinName) → Balanced v (ps ++ qs) w qs) → Trades v ps w []
 trades-gone v w ps b = record { balanced = subst (λ (qs : List PinName). Balanced v qs w []) (append-nil ps) (b []); given = λ _. tt }
 
@@ -48,7 +48,7 @@ trades-first v w ps rest b = trades-before v w rest ps [] (trades-gone v w ps b)
 pub trades-last : (v w : CallerView) (ps rest : List PinName) → ((qs : List PinName) → Balanced v (ps ++ qs) w qs) → Trades v (rest ++ ps) w rest
 trades-last v w ps rest b = subst (λ (qs : List PinName). Trades v (rest ++ ps) w qs) (append-nil rest) (trades-beside v w rest ps [] (trades-gone v w ps b))
 
--- Pins between others become others, and the last ones go there.
+-- Pins between others are replaced by the last ones.
 pub trades-between : (v w : CallerView) (hs ps bs cs ds qs : List PinName) → Trades v (ps ++ ds) w qs → Trades v ((hs ++ (ps ++ bs)) ++ (cs ++ ds)) w ((hs ++ (qs ++ bs)) ++ cs)
 trades-between v w hs ps bs cs ds qs t =
     let later = t.balanced.later in
@@ -86,7 +86,7 @@ trades-between v w hs ps bs cs ds qs t =
           (all-given-later v w cs later (given-left v cs ds back));
     }
 
--- The pins of a cover that stand together.
+-- A part of a cover.
 pub covered-between : (v : CallerView) (hs ps bs cs ds : List PinName) → Covered v ((hs ++ (ps ++ bs)) ++ (cs ++ ds)) → Covered v (ps ++ ds)
 covered-between v hs ps bs cs ds c =
     let front = given-left v (hs ++ (ps ++ bs)) (cs ++ ds) c.given in
@@ -103,13 +103,13 @@ covered-between v hs ps bs cs ds c =
           omega (arith, x, a, b, d, e, f);
     }
 
--- What stays covered beside pins that became others.
+-- What stays covered in addition to replaced pins.
 pub covered-rest : (u v : CallerView) (ps qs rs : List PinName) → Covered u (ps ++ qs) → Balanced u ps v rs → Covered v qs
 covered-rest u v ps qs rs c b = record {
   given = all-given-later u v qs b.later (given-right u ps qs c.given);
   held = λ s id. let a = count-append s id ps qs in let h = c.held s id in let l = b.least s id in omega (arith, a, h, l);
 }
 
--- Pins that became others, and then those beside them.
+-- Replaced pins, and then the pins after them.
 pub balanced-both : (u v w : CallerView) (ps qs rs ss : List PinName) → Balanced u ps v rs → Balanced v qs w ss → Balanced u (ps ++ qs) w (rs ++ ss)
 balanced-both u v w ps qs rs ss a b = balanced-then u v w (ps ++ qs) (rs ++ qs) (rs ++ ss) (balanced-before u v qs ps rs a) (balanced-beside v w rs qs ss b)

@@ -1,4 +1,4 @@
--- What a held merge is, and which pins holds have.
+-- What it means to hold a merge, and which pins holds have.
 use Rattle.std.specs.Prelude.{◌≡◌, ℕ, Bool, true, false, List, [], ◌∷◌, ◌++◌, Option, Some, None}
 use Rattle.std.specs.List.{list_any}
 use Rattle.sheets.specs.Sheets.{SheetOf}
@@ -20,7 +20,7 @@ module _ {J V M : Type 0} where
   is_loose (Pinned p) = false
   is_loose (Loose s) = true
 
-  -- Whether the hold, where there is one, is loose.
+  -- Whether the hold, if there is one, is loose.
   abbrev pub some_loose : Option (Hold J V M) → Bool
   some_loose None = false
   some_loose (Some h) = is_loose h
@@ -31,7 +31,7 @@ module _ {J V M : Type 0} where
     hold_pins (Pinned p) = name_of digest_of p ∷ []
     hold_pins (Loose s) = []
 
-    -- The pins of a hold, where there is one.
+    -- The pins of a hold, if there is one.
     abbrev pub some_pins : Option (Hold J V M) → List PinName
     some_pins None = []
     some_pins (Some h) = hold_pins h
@@ -46,8 +46,8 @@ module _ {J V M : Type 0} where
     IsPinOf pair old new (Pinned p) = (p.input ≡ pair) × (list_any (gave p.id (digest_of pair)) (gained (digest_of pair) old new) ≡ true)
     IsPinOf pair old new (Loose s) = Unit {0}
 
-    -- A hold on the merge of the pair, by its pin alone the caller holds more than it held, and where it has none, an
-    -- event of the caller's in the shard of the pair's digest clashed, or it was shown that the lock is worn.
+    -- A hold on the merge of the pair. The caller holds its pin in addition to what it held; if it has no pin, an event
+    -- of the caller's in the shard of the pair's digest clashed, or the caller was shown that the lock is worn.
     pub record IsHeld (pair : PairOf V) (old new : CallerView) (h : Hold J V M) : Type 0 where
       pub got : Got old (hold_pins h) new
       pub given : AreGiven new (hold_pins h)

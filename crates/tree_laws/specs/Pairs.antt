@@ -15,7 +15,7 @@ pub record PairOf (V : Type 0) : Type 0 where
 abbrev pub pair_of : {V : Type 0} → SheetOf V → SheetOf V → PairOf V
 pair_of a b = record { setting = a.setting; left = a.entries; right = b.entries }
 
--- The merge of a pair, by what joins two values at each setting.
+-- The merge of a pair, where `joined` joins two values at each setting.
 abbrev pub merge_of : {V : Type 0} → (ℕ → V → V → V) → PairOf V → SheetOf V
 merge_of joined p = record { setting = p.setting; entries = merged (joined p.setting) p.left p.right }
 

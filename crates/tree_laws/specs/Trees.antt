@@ -1,4 +1,4 @@
--- What a tree stands for: its leaves, and a draft of them while an advance is not settled.
+-- The model of a tree: its leaves, and a draft while an advance is not settled.
 use Rattle.std.specs.Prelude.{◌≡◌, ℕ, ◌⊎◌, Bool, true, false, List, [], ◌∷◌, length, fold, Option, Some, None}
 use Rattle.definitions.specs.Tables.{IsRising, HasGoodValues, merged, keys_of, value_at}
 use Rattle.sheets.specs.Sheets.{SheetOf}
@@ -28,7 +28,7 @@ pub record Leaves (V : Type 0) : Type 0 where
 abbrev pub no_leaves : {V : Type 0} → Leaves V
 no_leaves = record { first = 0; tables = []; loose = false; shape = no_shape }
 
--- A tree: the setting of its sheets, the places of its window, its leaves, and the draft where one stands.
+-- A tree: the setting of its sheets, the places of its window, its leaves, and the draft if there is one.
 pub record TreeView (V : Type 0) : Type 0 where
   pub setting : ℕ
   pub places : ℕ
@@ -45,19 +45,19 @@ abbrev pub bare : {V : Type 0} → ℕ → ℕ → TreeView V
 bare setting places = record { setting = setting; places = places; leaves = no_leaves; draft = None }
 
 module _ {V : Type 0} where
-  -- The leaves after a shift that brings these sheets. Which nodes are loose is said by itself.
+  -- The leaves after a shift that brings these sheets. Which nodes are loose is stated separately.
   pub record IsDraftOf (shaped : Shape → Shift → Shape) (shift : Shift) (news : List (SheetOf V)) (old new : Leaves V) : Type 0 where
     pub first : new.first ≡ first_after shift old.first
     pub tables : new.tables ≡ shifted shift (tables_of news) old.tables
     pub shape : new.shape ≡ shaped old.shape shift
 
-  -- The tree has taken the shift as its draft, and else is as before.
+  -- The tree has a draft of the leaves after the shift, and is otherwise unchanged.
   pub record IsDrafted (shaped : Shape → Shift → Shape) (shift : Shift) (news : List (SheetOf V)) (old new : TreeView V) : Type 0 where
     pub draft : Leaves V
     pub is : new ≡ record old { draft = Some draft }
     pub of : IsDraftOf shaped shift news old.leaves draft
 
-  -- A node of the draft is loose only where one of the leaves is, or where the caller met what makes one so.
+  -- A node of the draft is loose only if one of the leaves is, or if the caller met what makes a node loose.
   abbrev pub LooseOnlyIf : Type 0 → TreeView V → TreeView V → Type 0
   LooseOnlyIf Meets old new = (draft : Leaves V) → new.draft ≡ Some draft → draft.loose ≡ true → (old.leaves.loose ≡ true) ⊎ Meets
 
@@ -74,7 +74,7 @@ module _ {V : Type 0} where
   abbrev pub reverted : TreeView V → TreeView V
   reverted v = record v { draft = None }
 
-  -- The tree has taken the shift as its leaves, and else is as before.
+  -- The tree has the leaves after the shift, and is otherwise unchanged.
   pub record IsSettled (shaped : Shape → Shift → Shape) (shift : Shift) (news : List (SheetOf V)) (old new : TreeView V) : Type 0 where
     pub draft : Leaves V
     pub is : new ≡ record old { leaves = draft; draft = None }
@@ -85,7 +85,7 @@ module _ {V : Type 0} where
   merged_all join [] = None
   merged_all join (t ∷ ts) = Some (fold (merged join) t ts)
 
-  -- A sheet of the setting with the merge of the tables, and none exactly where there are none.
+  -- A sheet of the setting with the merge of the tables; none exactly if there are no tables.
   abbrev pub IsMergeOver : (ℕ → V → V → V) → ℕ → List (List (List ℕ × V)) → Option (SheetOf V) → Type 0
   IsMergeOver joined setting ts None = ts ≡ []
   IsMergeOver joined setting ts (Some s) = (s.setting ≡ setting) × (merged_all (joined setting) ts ≡ Some s.entries)
@@ -94,13 +94,13 @@ module _ {V : Type 0} where
   abbrev pub IsRoot : (ℕ → V → V → V) → TreeView V → Option (SheetOf V) → Type 0
   IsRoot joined v root = IsMergeOver joined v.setting v.leaves.tables root
 
-  -- A sheet of the setting, with values that are good at it, and with rising keys.
+  -- A sheet of the setting, with rising keys and values that are good at it.
   pub record IsLeaf (good : ℕ → V → Type 0) (setting : ℕ) (s : SheetOf V) : Type 0 where
     pub setting_is : s.setting ≡ setting
     pub values : HasGoodValues (good setting) s.entries
     pub rising : IsRising s.entries
 
-  -- Each key of the table stands in one of the tables.
+  -- Each key of the table is in one of the tables.
   abbrev pub IsWithin : List (List ℕ × V) → List (List (List ℕ × V)) → Type 0
   IsWithin t ts = (key : List ℕ) → value_at (end_to_end ts) key ≡ None → value_at t key ≡ None
 
@@ -108,6 +108,6 @@ module _ {V : Type 0} where
   abbrev pub bound_of : {T : Type 0} → (T → TreeView V) → (ℕ → Shape → ℕ → Shift → ℕ) → T → Shift → ℕ
   bound_of view bound tree shift = bound (view tree).places (view tree).leaves.shape (length (view tree).leaves.tables) shift
 
-  -- How many keys stand in the tables, each counted once.
+  -- How many distinct keys the tables have.
   abbrev pub distinct_keys : List (List (List ℕ × V)) → ℕ
   distinct_keys ts = length (keys_of (end_to_end ts))

@@ -1,4 +1,4 @@
-//! A tree holds each of its nodes in one of two ways, and gives pins alone back to the memo.
+//! The two ways in which a tree holds a node: by a pin on the memo's entry, or without one.
 ghost use Rattle.std.specs.Prelude.{◌≡◌};
 ghost use Rattle.tree_laws.specs.Holds.{sheet_of};
 
@@ -7,8 +7,8 @@ use job_laws::Job;
 use pin_table::Pin;
 use sheets::Sheet;
 
-/// The sheet of a merge: by a pin on the memo's entry, or one that the memo did not take, for want of room beside another
-/// input of its digest or because its lock is worn.
+/// The sheet of a merge: by a pin on the memo's entry; or loose, if the memo did not take it because another input has
+/// its digest, or because the lock is worn.
 #[derive(Drop)]
 pub enum Hold<J: Job> {
     Pinned(Pin<MergeRecipe<J>>),

@@ -1,4 +1,4 @@
-//! How a tree gives up nodes that it no longer uses, so that the memo may collect them. None of these calls takes memory.
+//! How a tree gives up nodes that it no longer uses, so that the memo may drop them. None of these calls takes memory.
 ghost use Rattle.std.specs.Prelude.{◌≡◌, List, ◌++◌};
 ghost use Rattle.pin_table.specs.Covers.{PinName, Covered, Balanced};
 ghost use Rattle.tree_laws.specs.Holds.{hold_pins, some_pins, all_pins};
@@ -9,7 +9,7 @@ use job_laws::Job;
 use pin_table::{Caller, Memo};
 use std::sync::Wait;
 
-/// Releases the hold's pin, and drops it where its lock is worn. It may wait for its turn.
+/// Releases the hold's pin, or drops it if its lock is worn. It may block.
 pub fn let_go<J: Job, W: Wait>(
     rt: &W,
     memo: &Memo<MergeRecipe<J>>,
@@ -29,7 +29,7 @@ pub fn let_go<J: Job, W: Wait>(
     }
 }
 
-/// Lets a hold go, where there is one.
+/// Gives up a hold, if there is one.
 pub fn let_some_go<J: Job, W: Wait>(
     rt: &W,
     memo: &Memo<MergeRecipe<J>>,
@@ -49,7 +49,7 @@ pub fn let_some_go<J: Job, W: Wait>(
     }
 }
 
-/// Lets each of the holds go, the last one first.
+/// Gives up each of the holds, the last one first.
 pub fn let_all_go<J: Job, W: Wait>(
     rt: &W,
     memo: &Memo<MergeRecipe<J>>,

@@ -1,8 +1,8 @@
-//! What a tree of merged sheets is to the engine that runs it, and the merge that goes through a memo.
+//! The interface between an engine and its trees of merged sheets, and the merge of two sheets through a memo.
 //!
-//! Start at [`Tree`]; a tree makes each of its nodes by [`merge_through`], whose answer is a [`Hold`], and gives holds up by
-//! [`let_go`], [`let_some_go`] and [`let_all_go`]. A merge costs one look, and where that is no hit one merge and one keep.
-//! Sheets are shared and never copied. Nothing here remembers leaves: that is each tree's own matter.
+//! Start at [`Tree`]; a tree makes each of its nodes by [`merge_through`], which returns a [`Hold`], and gives holds up
+//! by [`let_go`], [`let_some_go`] and [`let_all_go`]. A merge costs one look, and if that does not hit, one merge and
+//! one keep. Sheets are shared and never copied. How leaves are stored is up to each tree.
 #![tactic(auto)]
 
 mod hold;

@@ -1,4 +1,4 @@
-//! A merge costs a walk over two tables, so it is looked up first, by its two sheets.
+//! A merge walks over two tables, so it is first looked up by its two sheets.
 ghost use Rattle.std.specs.Prelude.{◌≡◌, ◌<◌, ◌⊎◌, [], true, false, IfOk, OnOk, OnErr};
 ghost use Rattle.std.specs.List.{list_any};
 ghost use Rattle.definitions.specs.Tables.{common_keys};
@@ -16,8 +16,8 @@ use sheets::{Sheet, merge_sheets};
 use std::alloc::{AllocError, Global};
 use std::sync::Wait;
 
-/// The merge of two sheets, `a` on the left: the memo's, where a look hits, and else one that is made and then kept. It may
-/// wait for two turns, at the one shard of the pair's digest.
+/// The merge of two sheets, `a` on the left: that of the memo if a look hits, otherwise it is made and kept. It takes
+/// one or two turns at the shard of the pair's digest, and may block.
 pub fn merge_through<J: Job, W: Wait>(
     alloc: Global,
     rt: &W,
@@ -36,7 +36,7 @@ pub fn merge_through<J: Job, W: Wait>(
     ensures held { IfOk result (λ hold. IsHeld (pair_digest J.encoded) (pair_of a.now b.now) caller.old caller.new hold) }
     ensures unheld { OnErr result (Got caller.old [] caller.new) }
 
-    // A merge is made, and then once, only where no look hit; and a look for what is known hits, or what it met is a clash or a
+    // A merge is made at most once, and only if no look hit; a look for a known pair hits, unless it met a clash or a
     // worn lock.
     ensures looked { let digest = pair_digest J.encoded (pair_of a.now b.now) in (J.Meter.counts m.old).merges < (J.Meter.counts m.new).merges → (list_any (is_miss digest) (gained digest caller.old caller.new) ≡ true) ⊎ IsWorn (there digest caller.old) caller.new }
     ensures known { let digest = pair_digest J.encoded (pair_of a.now b.now) in IsKnown digest caller.old → (J.Meter.counts m.new ≡ J.Meter.counts m.old) ⊎ Met caller.old caller.new }

@@ -1,4 +1,4 @@
-//! Two sheets that are to be merged are one input of the memo, so they stand together.
+//! Two sheets to be merged are one input of the memo.
 use job_laws::Job;
 use sheets::Sheet;
 use std::marker::Model;

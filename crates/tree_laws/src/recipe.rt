@@ -1,4 +1,4 @@
-//! How a memo knows merges: two pairs are told apart by their whole tables, whatever their digests.
+//! How a memo looks up merges: pairs are compared by their whole tables, whatever their digests.
 ghost use Rattle.std.specs.Prelude.{◌≡◌};
 
 use crate::Pair;
@@ -9,8 +9,8 @@ use sheets::{Sheet, same_sheet};
 use std::alloc::{AllocError, Global};
 use std::marker::PhantomData;
 
-/// The merges of a job's sheets, by what they merge. The digest of a pair is SHA-256, of FIPS 180-4, over a byte of 1 and
-/// the digests of its two sheets, so no table is hashed again.
+/// The merges of a job's sheets, by the pairs that they merge. The digest of a pair is SHA-256 (FIPS 180-4) of a byte 1
+/// and the digests of its two sheets, so no table is hashed again.
 #[derive(Drop)]
 pub struct MergeRecipe<J: Job> {
     job: PhantomData<J>,

@@ -1,5 +1,5 @@
 //! All that an engine knows of a tree, so that it runs every kind of tree by the same steps. `specs/Trees.antt` has the
-//! words.
+//! definitions.
 ghost use Rattle.std.specs.Prelude.{◌≡◌, ℕ, ◌+◌, ◌*◌, ◌<◌, ◌≤◌, Bool, true, false, List, [], length, map, All, Option, Some, None, IfOk, OnOk, OnErr, IsSome, option_copied};
 ghost use Rattle.job_laws.specs.Counted.{RoseWithin, RoseBy};
 ghost use Rattle.sheets.specs.United.{tables_of};
@@ -16,14 +16,15 @@ use sheets::Sheet;
 use std::alloc::{AllocError, Global};
 use std::sync::Wait;
 
-/// A tree of merged sheets over the leaves of a window of one kind. An advance makes a draft of the shifted leaves beside
-/// them, which is then settled or reverted; a tree shares the sheets of its leaves and never copies one. The nodes that
-/// went through the memo are pinned, and each call that takes a caller leaves what this caller holds beyond them.
+/// A tree of merged sheets over the leaves of a window of one kind. An advance makes a draft of the shifted leaves,
+/// apart from the leaves, which is then settled or reverted; a tree shares the sheets of its leaves and never copies
+/// one. The nodes that went through the memo are pinned, and each call that takes a caller leaves what this caller
+/// holds beyond them.
 pub trait Tree<J: Job>: Drop {
     ghost use Rattle.record_text.specs.declared.kind.Kind.{Kind};
     ghost use Rattle.record_text.specs.declared.shift.Shift.{Shift};
 
-    /// The windows that it is for.
+    /// The kind of window that it is for.
     const KIND: Kind;
 
     ghost KIND: { Kind };
@@ -31,16 +32,16 @@ pub trait Tree<J: Job>: Drop {
     // Its setting and places, its leaves, and the draft.
     ghost view: { Self → TreeView J.Val };
 
-    // Its own pins, those of a draft among them, and then those of an inner tree.
+    // Its own pins, including those of a draft, and then those of an inner tree.
     ghost pins: { Self → List PinName };
 
-    // The most pins that it has where no draft stands.
+    // The most pins that it has without a draft.
     ghost most: { Self → ℕ };
 
     // The most merges of an advance by the shift, by the places of the window, the shape of the leaves and their number.
     ghost bound: { ℕ → Shape → ℕ → Shift → ℕ };
 
-    // The most merges of an advance by the shift that brings these tables, where nothing is loose or becomes so.
+    // The most merges of an advance by the shift that brings these tables, if nothing is loose or becomes loose.
     ghost tight: { Self → Shift → List (List (List ℕ × J.Val)) → ℕ };
 
     // The shape of the leaves after a shift, by the shape before it.
@@ -52,15 +53,15 @@ pub trait Tree<J: Job>: Drop {
     // The most merges of the work ahead.
     ghost ahead_bound: { Self → ℕ };
 
-    /// A tree for a window of so many places, without leaves, whose sheets will have this setting.
+    /// A tree without leaves, for a window of `places` places and sheets of this setting.
     fn fresh(alloc: Global, setting: u32, places: u32) -> Result<Self, AllocError>
         requires least { 0 < places }
         requires most { places ≤ 4096 }
         ensures view { IfOk result (λ t. view t ≡ bare setting places) }
         ensures pins { IfOk result (λ t. pins t ≡ []) };
 
-    /// Takes the shift as a draft beside the leaves: `fresh` are the sheets that it brings, those of its places first. Out
-    /// of memory, no draft stands. It walks the paths above the changed places alone, and may wait for the memo's turns.
+    /// Makes a draft of the leaves after the shift: `fresh` are the sheets that it brings, those of its places first.
+    /// Out of memory, there is no draft. It walks only the paths above the changed places, and may block.
     fn advance<W: Wait>(
         &mut self,
         alloc: Global,
@@ -82,7 +83,7 @@ pub trait Tree<J: Job>: Drop {
         ensures ok { OnOk result (IsDrafted shaped shift.now fresh.now (view self.old) (view self.new)) }
         ensures err { OnErr result (view self.new ≡ view self.old) }
 
-        // Whatever it answers:
+        // Whatever it returns:
         ensures covered { Covered caller.new (pins self.new) }
         ensures balanced { Balanced caller.old (pins self.old) caller.new (pins self.new) }
         ensures few { (view self.new).draft ≡ None → length (pins self.new) ≤ most self.new }
@@ -90,8 +91,8 @@ pub trait Tree<J: Job>: Drop {
         ensures counted { RoseBy 0 (bound_of view bound self.old shift.now) (bound_of view bound self.old shift.now * distinct_keys (shifted shift.now (tables_of fresh.now) (view self.old).leaves.tables)) (J.Meter.counts m.old) (J.Meter.counts m.new) }
         ensures tight { (view self.old).leaves.loose ≡ false → (Met caller.old caller.new → ⊥) → RoseWithin (tight self.old shift.now (tables_of fresh.now)) (J.Meter.counts m.old).merges (J.Meter.counts m.new).merges };
 
-    /// Makes the draft the leaves, and gives up the pins that only the leaves before it used. It takes no memory, walks the
-    /// nodes that the draft replaced alone, and may wait for the memo's turns.
+    /// Makes the draft the leaves, and gives up the pins that only the leaves before it used. It takes no memory, walks
+    /// only the nodes that the draft replaced, and may block.
     fn settle<W: Wait>(
         &mut self,
         rt: &W,
@@ -106,8 +107,8 @@ pub trait Tree<J: Job>: Drop {
         ensures balanced { Balanced caller.old (pins self.old) caller.new (pins self.new) }
         ensures few { length (pins self.new) ≤ most self.new };
 
-    /// Drops the draft where one stands, and gives up the pins that only the draft used. It takes no memory, walks the nodes
-    /// that the draft replaced alone, and may wait for the memo's turns.
+    /// Drops the draft, if there is one, and gives up the pins that only the draft used. It takes no memory, walks only
+    /// the nodes of the draft, and may block.
     fn revert<W: Wait>(
         &mut self,
         rt: &W,
@@ -121,7 +122,7 @@ pub trait Tree<J: Job>: Drop {
         ensures balanced { Balanced caller.old (pins self.old) caller.new (pins self.new) }
         ensures few { length (pins self.new) ≤ most self.new };
 
-    /// The merge of the leaves in order, not of a draft's; none exactly where there are no leaves.
+    /// The merge of the leaves in order, without those of a draft; `None` exactly if there are no leaves.
     fn root(&self) -> Option<&Sheet<J>>
         ensures { IsRoot J.joined (view self.now) (option_copied result) };
 
@@ -129,7 +130,7 @@ pub trait Tree<J: Job>: Drop {
     fn prepared(&self) -> bool
         ensures { result ≡ is_prepared self.now };
 
-    /// Does the work ahead, which leaves less to the next advance. Out of memory, it may be called again.
+    /// Does the work ahead, which leaves less for the next advance. Out of memory, it may be called again.
     fn ahead<W: Wait>(
         &mut self,
         alloc: Global,
@@ -146,7 +147,7 @@ pub trait Tree<J: Job>: Drop {
         requires job { J.setting job.now ≡ (view self.old).setting }
         ensures ok { OnOk result (is_prepared self.new ≡ true) }
 
-        // Whatever it answers:
+        // Whatever it returns:
         ensures same { view self.new ≡ view self.old }
         ensures covered { Covered caller.new (pins self.new) }
         ensures balanced { Balanced caller.old (pins self.old) caller.new (pins self.new) }

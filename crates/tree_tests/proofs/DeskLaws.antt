@@ -13,7 +13,7 @@ use Rattle.pin_table.specs.Covers.{PinName, Covered, Balanced}
 use Rattle.tree_laws.specs.Trees.{Shape, TreeView, IsSettled}
 use Rattle.tree_tests.specs.Desks.{count_after, IsSeated}
 
--- How many leaves stand after a shift.
+-- How many leaves there are after a shift.
 put-count : {X : Type 0} (ps : List ℕ) (ns xs : List X) → length (put_at ps ns xs) ≡ length xs
 put-count [] ns xs = refl
 put-count (p ∷ ps) [] xs = refl
@@ -46,13 +46,13 @@ shifted-count Circle most old count news (Splice first gone fresh) ns os f n o =
 shifted-count Document most old count news (Slide first gone places fresh) ns os f n o = absurd f
 shifted-count Document most old count news (Splice first gone fresh) ns os f n o = splice-count count news first gone fresh ns os f.0 f.1 n o
 
--- A tree without leaves beside pins that are covered.
+-- A tree without leaves, in addition to pins that are covered.
 pub beside-none : (caller : CallerView) (pins others : List PinName) → pins ≡ [] → Covered caller others → Covered caller (pins ++ others)
 beside-none caller pins others none covered = subst (λ (ps : List PinName). Covered caller (ps ++ others)) (sym none) covered
 
 module _ {V : Type 0} (memo : MemoView) (u : CallerView) (ps : List PinName) (old : TreeView V) (setting places first count : ℕ) (s : IsSeated memo u ps old setting places first count) where
   module _ (w : CallerView) (qs : List PinName) (new : TreeView V) (covered : Covered w qs) where
-    -- After a run that left the tree as it was.
+    -- After a run that left the tree unchanged.
     pub seated-same : w.locks ≡ u.locks → new ≡ old → IsSeated memo w qs new setting places first count
     seated-same locks is = record {
       of = locks ∙ s.of;

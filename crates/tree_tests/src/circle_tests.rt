@@ -1,4 +1,5 @@
-//! Circles of small leaves, whose job counts words. Of a circle's places each stands under a path of halves to the root.
+//! Circles of small leaves, with a job that counts words. Each place of a circle is under a path of halves up to the
+//! root.
 use crate::desk::Desk;
 use crate::steps::{Step, insists, refuses, runs, tries, works_ahead};
 use crate::walks::slides_on;
@@ -14,12 +15,12 @@ type Small = Count<CountMeter>;
 
 type Circle = Desk<Small, RotatingTree<Small>>;
 
-// A circle of so many places without leaves, over a memo whose locks start at `start`.
+// A circle of `places` places without leaves, over a memo whose locks start at `start`.
 fn circle(alloc: Global, places: u32, start: u64) -> Result<Circle, AllocError> {
     Desk::new(alloc, Count::new(), CountMeter::new(), places, start)
 }
 
-// How many of the steps went as they are to in a circle of so many places, before one that did not.
+// How many of the steps went as expected in a circle of `places` places, before one that did not.
 fn plays<W: Wait>(
     alloc: Global,
     rt: &W,
@@ -66,8 +67,8 @@ fn three_of_eight_places_take_two_merges(rt: HostRuntime) -> Result<(), Fail> {
     Ok(())
 }
 
-// After the second run the window is b, c, d, e, whose last one stands at the place of a; so the first and the last one
-// have one node over both.
+// After the second run the window is b, c, d, e, with e at the place of a; so the first and the last leaf have one node
+// over both.
 #[test]
 fn a_changed_place_takes_the_path_over_it(rt: HostRuntime) -> Result<(), Fail> {
     let went = plays(
@@ -91,9 +92,10 @@ fn a_changed_place_takes_the_path_over_it(rt: HostRuntime) -> Result<(), Fail> {
     Ok(())
 }
 
-// At the places in their order are first a, b, c, d, e. Then f, g, h, d, e: new over f and g, over h and d, over these
-// four, and over all. The second and the third of the window d, e, f, g, h stand at the last place and the first: new over
-// f and g, over the four, and over all. Then k, g, h, i, j: new over k and g, over h and i, over these four, and over all.
+// The places have first a, b, c, d, e. Then f, g, h, d, e: new merges are over f and g, over h and d, over these four,
+// and over all. The second and the third leaf of the window d, e, f, g, h are at the last place and the first: new
+// merges are over f and g, over the four, and over all. Then k, g, h, i, j: new merges are over k and g, over h and i,
+// over these four, and over all.
 #[test]
 fn ranges_wrap_round_the_circle(rt: HostRuntime) -> Result<(), Fail> {
     let went = plays(
@@ -194,8 +196,8 @@ fn a_circle_of_one_place_merges_nothing(rt: HostRuntime) -> Result<(), Fail> {
     Ok(())
 }
 
-// First one merge over a and a, found for the other two, and one over both. Of the two nodes with one merge one goes, and
-// the other one stays; at last b and a are found.
+// First one merge over a and a, found again for the other two, and one over both. Then one of the two nodes with the
+// same merge leaves, and the other stays; at last the merge of b and a is found.
 #[test]
 fn equal_merges_are_made_once(rt: HostRuntime) -> Result<(), Fail> {
     let went = plays(
@@ -263,7 +265,7 @@ fn record_of(step: usize, k: usize) -> [u8; 4] {
     ]
 }
 
-// So many leaves of a step of the walk.
+// The leaves of a step of the walk.
 fn leaves_of_step(
     desk: &mut Circle,
     alloc: Global,
@@ -296,7 +298,7 @@ fn goes_on<W: Wait>(
     slides_on(desk, alloc, rt, step, gone, places, news, window, m)
 }
 
-// How many of so many steps went right.
+// How many of the steps of a walk succeeded.
 fn walk<W: Wait>(alloc: Global, rt: &W, steps: usize) -> Result<usize, AllocError> {
     let mut desk = circle(alloc, PLACES as u32, 0)?;
     let mut window = Vec::new(alloc);

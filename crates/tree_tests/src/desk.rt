@@ -1,4 +1,4 @@
-//! A tree of any kind at work: beside it stand the memo with its caller, the job and the window that its leaves are of.
+//! A tree of any kind at work, with its memo and caller, its job, and the window of its leaves.
 ghost use Rattle.std.specs.Prelude.{◌≡◌, All, IsTrue};
 
 use crate::leaves::{leaves, lines_of, plain, slide};
@@ -14,7 +14,7 @@ use std::marker::Model;
 use std::sync::Wait;
 use tree_laws::{MergeRecipe, Tree};
 
-/// A tree over which no draft stands, and all that its calls ask for.
+/// A tree without a draft, and all that its calls ask for.
 #[derive(Drop)]
 pub(crate) struct Desk<J: Job, T: Tree<J>> {
     job: J,
@@ -37,7 +37,7 @@ impl<J: Job, T: Tree<J>> Model for Desk<J, T> {
 }
 
 impl<J: Job, T: Tree<J>> Desk<J, T> {
-    /// A tree without leaves, of so many places, 1 to 4,096, over a memo whose locks start at `start`, at most 2^62.
+    /// A tree without leaves, of 1 to 4,096 places, over a memo whose locks start at `start`, at most 2^62.
     pub(crate) fn new(
         alloc: Global,
         job: J,
@@ -66,7 +66,7 @@ impl<J: Job, T: Tree<J>> Desk<J, T> {
         })
     }
 
-    /// A run by the shift, which brings these leaves; whether its window can give it.
+    /// A run by the shift, which brings these leaves. Returns whether the window can give the shift.
     pub(crate) fn runs<W: Wait>(
         &mut self,
         alloc: Global,
@@ -103,7 +103,7 @@ impl<J: Job, T: Tree<J>> Desk<J, T> {
         }
     }
 
-    /// A run whose draft is dropped, whether it stands or memory ran out.
+    /// A run whose draft is dropped, whether there is one or memory ran out.
     pub(crate) fn tries<W: Wait>(
         &mut self,
         alloc: Global,
@@ -160,7 +160,7 @@ impl<J: Job, T: Tree<J>> Desk<J, T> {
         Ok(self.tree.prepared())
     }
 
-    /// A run of another tree over the same memo, of as many places and without leaves before it, which is then let go.
+    /// A run of another tree over the same memo, with as many places and no leaves before it, which is then dropped.
     pub(crate) fn another_runs<W: Wait>(
         &mut self,
         alloc: Global,
@@ -197,7 +197,8 @@ impl<J: Job, T: Tree<J>> Desk<J, T> {
         }
     }
 
-    /// A run, and once more if memory runs out: whether the window can give it, and the root was as before in between.
+    /// A run, and once more if memory runs out. Returns whether the window can give it, and the root was unchanged in
+    /// between.
     pub(crate) fn insists<W: Wait>(
         &mut self,
         alloc: Global,
@@ -223,7 +224,7 @@ impl<J: Job, T: Tree<J>> Desk<J, T> {
         leaves(alloc, &self.job, text, &mut self.m)
     }
 
-    /// The slide by which so many of the oldest leaves go, and which brings so many sheets, those of the changed places
+    /// The slide by which `gone` of the oldest leaves go, and which brings `news` sheets, those of the changed places
     /// first.
     pub(crate) fn slide(
         &self,
@@ -240,7 +241,8 @@ impl<J: Job, T: Tree<J>> Desk<J, T> {
         self.m.counts().merges
     }
 
-    /// Whether the root is the merge of these sheets from left to right, made past the tree, and there is none of no sheets.
+    /// Whether the root is the merge of these sheets from left to right, made without the tree; without sheets there
+    /// must be no root.
     pub(crate) fn is_merge_of(
         &self,
         alloc: Global,
@@ -254,7 +256,7 @@ impl<J: Job, T: Tree<J>> Desk<J, T> {
         Ok(self.has(&want))
     }
 
-    /// How often the memo was asked, at whose end.
+    /// How often the memo was asked, once the desk is closed.
     pub(crate) fn looks(self, alloc: Global) -> Result<usize, AllocError> {
         let Desk { memo, caller, .. } = self;
         let mut callers = Vec::new(alloc);

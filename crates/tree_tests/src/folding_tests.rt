@@ -1,4 +1,4 @@
-//! Windows of buckets whose oldest ones go. The job keeps the value that came last, so that the order of merges shows.
+//! Windows whose oldest buckets leave. The job keeps the last value, so that the order of merges shows.
 use crate::desk::Desk;
 use crate::steps::{Step, another_runs, at, insists, refuses, runs, tries, works_ahead};
 use crate::walks::{chance, leaves_of_step, slides_on};
@@ -19,7 +19,7 @@ fn buckets(alloc: Global, start: u64) -> Result<Buckets, AllocError> {
     Desk::new(alloc, Latest::new(), CountMeter::new(), 1, start)
 }
 
-// How many of the steps went as they are to, before one that did not.
+// How many of the steps went as expected, before one that did not.
 fn plays<W: Wait>(alloc: Global, rt: &W, start: u64, steps: &[Step]) -> Result<usize, AllocError> {
     let mut desk = buckets(alloc, start)?;
     desk.plays(alloc, rt, steps)
@@ -43,7 +43,7 @@ fn a_window_without_buckets_merges_nothing(rt: HostRuntime) -> Result<(), Fail> 
     Ok(())
 }
 
-// New are: a with b; that with c; c with d and the root; the old root with e.
+// New merges: a with b; that with c; c with d and the root; the old root with e.
 #[test]
 fn a_full_tree_is_doubled(rt: HostRuntime) -> Result<(), Fail> {
     let went = plays(
@@ -90,8 +90,8 @@ fn buckets_that_come_together_are_merged_in_pairs(rt: HostRuntime) -> Result<(),
     Ok(())
 }
 
-// Of eight places the last four have e, f, g, over which all stands already. Then h takes the fourth place of four, and
-// the tree is doubled for i: new are g with h, e and f with these two, and that with i.
+// Of eight places the last four have e, f, g, and all nodes over these are there already. Then h takes the fourth place
+// of four, and the tree is doubled for i: new merges are g with h, e and f with these two, and that with i.
 #[test]
 fn the_left_half_folds_away(rt: HostRuntime) -> Result<(), Fail> {
     let went = plays(
@@ -120,7 +120,7 @@ fn the_left_half_folds_away(rt: HostRuntime) -> Result<(), Fail> {
     Ok(())
 }
 
-// Of eight places the fifth has e: first the left half goes, and then, twice, the right one.
+// Of eight places the fifth has e: first the left half folds away, then, twice, the right one.
 #[test]
 fn both_halves_fold_away(rt: HostRuntime) -> Result<(), Fail> {
     let went = plays(
@@ -143,7 +143,7 @@ fn both_halves_fold_away(rt: HostRuntime) -> Result<(), Fail> {
     Ok(())
 }
 
-// Of sixteen places the ninth to the eleventh have i, j, k, which are the left half of the right one.
+// Of sixteen places the ninth to the eleventh have i, j, k: the left half of the right half.
 #[test]
 fn the_right_half_of_what_is_left_folds_away(rt: HostRuntime) -> Result<(), Fail> {
     let went = plays(
@@ -166,7 +166,8 @@ fn the_right_half_of_what_is_left_folds_away(rt: HostRuntime) -> Result<(), Fail
     Ok(())
 }
 
-// First b is alone in its pair; new are c with d, and b with these. Then this pair is the whole tree, which is doubled.
+// First b is alone in its pair; new merges are c with d, and b with these. Then this pair is the whole tree, which is
+// doubled.
 #[test]
 fn a_void_half_passes_the_other_one_up(rt: HostRuntime) -> Result<(), Fail> {
     let went = plays(
@@ -183,8 +184,8 @@ fn a_void_half_passes_the_other_one_up(rt: HostRuntime) -> Result<(), Fail> {
     Ok(())
 }
 
-// Without a, new are b with c and d, and the root; without b the root; without c it again, over d alone at its left; and
-// without d it is what stood at its right.
+// Without a, new merges are b with c and d, and the root; without b the root; without c the root again, with d alone on
+// its left; and without d it is the sheet on its right.
 #[test]
 fn a_bucket_that_goes_takes_the_path_over_it(rt: HostRuntime) -> Result<(), Fail> {
     let went = plays(
@@ -215,8 +216,8 @@ fn a_bucket_that_goes_takes_the_path_over_it(rt: HostRuntime) -> Result<(), Fail
     Ok(())
 }
 
-// New are, over the leaf that goes: b with c and d, these with e to h; and the root. Then: c and d with e to h; i with j;
-// and the root. At last: d with e to h; i and j with k; and the root.
+// New merges over the leaf that leaves: b with c and d, these with e to h; and the root. Then: c and d with e to h; i
+// with j; and the root. At last: d with e to h; i and j with k; and the root.
 #[test]
 fn a_window_of_eight_moves_on(rt: HostRuntime) -> Result<(), Fail> {
     let went = plays(
@@ -352,7 +353,7 @@ fn changed_buckets_share_what_stands_over_both(rt: HostRuntime) -> Result<(), Fa
     Ok(())
 }
 
-// New are c with d, e with f, that with g, and the root.
+// New merges are c with d, e with f, that with g, and the root.
 #[test]
 fn buckets_go_and_change_and_come_at_once(rt: HostRuntime) -> Result<(), Fail> {
     let went = plays(
@@ -474,7 +475,8 @@ fn a_draft_of_buckets_that_is_dropped_leaves_no_trace(rt: HostRuntime) -> Result
     Ok(())
 }
 
-// For the drafts f with g is new, then nothing, then g with h and three nodes over them. The run then has none of these.
+// For the drafts f with g is new, then nothing, then g with h and three nodes over them. The run then uses none of
+// these.
 #[test]
 fn drafts_that_fold_and_double_are_dropped(rt: HostRuntime) -> Result<(), Fail> {
     let went = plays(
@@ -538,7 +540,8 @@ fn equal_buckets_are_merged_once(rt: HostRuntime) -> Result<(), Fail> {
     Ok(())
 }
 
-// New are a with b, and one such pair with the other one. When the first pair goes and one comes, both are found.
+// New merges are a with b, and one such pair with the other. When the first pair leaves and another comes, both are
+// found.
 #[test]
 fn equal_pairs_of_buckets_are_merged_once(rt: HostRuntime) -> Result<(), Fail> {
     let went = plays(
@@ -569,7 +572,7 @@ fn a_tree_of_equal_buckets_merges_nothing(rt: HostRuntime) -> Result<(), Fail> {
     Ok(())
 }
 
-// None that went changes, and no stretch is replaced as in a document.
+// No leaf that left can change, and no stretch is replaced as in a document.
 #[test]
 fn a_window_of_buckets_lets_no_more_go_than_stand(rt: HostRuntime) -> Result<(), Fail> {
     let went = plays(
@@ -639,8 +642,8 @@ fn out_of_memory_the_buckets_stand(rt: HostRuntime) -> Result<(), Fail> {
     Ok(())
 }
 
-// A step of the walk: whether the root is the plain merge of the window's leaves. Up to three leaves go and come, and at
-// times all go; at each second step one of those that stay is new.
+// A step of the walk: whether the root is the plain merge of the window's leaves. Up to three leaves go and come, and
+// sometimes all leave; at each second step one of those that stay is changed.
 fn goes_on<W: Wait>(
     desk: &mut Buckets,
     alloc: Global,
@@ -664,7 +667,7 @@ fn goes_on<W: Wait>(
     slides_on(desk, alloc, rt, step, gone, places, news, window, m)
 }
 
-// How many of so many steps went right.
+// How many of the steps of a walk succeeded.
 fn walk<W: Wait>(alloc: Global, rt: &W, steps: usize) -> Result<usize, AllocError> {
     let mut desk = buckets(alloc, 0)?;
     let mut window = Vec::new(alloc);

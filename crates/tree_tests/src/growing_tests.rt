@@ -1,4 +1,4 @@
-//! Windows that grow, of small leaves. The job keeps the value that came last, so that the order of merges shows.
+//! Windows that grow, of small leaves. The job keeps the last value, so that the order of merges shows.
 use crate::desk::Desk;
 use crate::steps::{Step, another_runs, insists, refuses, runs, tries, works_ahead};
 use crate::walks::{goes, leaves_of_step};
@@ -19,7 +19,7 @@ fn growing(alloc: Global, start: u64) -> Result<Growing, AllocError> {
     Desk::new(alloc, Latest::new(), CountMeter::new(), 1, start)
 }
 
-// How many of the steps went as they are to, before one that did not.
+// How many of the steps went as expected, before one that did not.
 fn plays<W: Wait>(alloc: Global, rt: &W, start: u64, steps: &[Step]) -> Result<usize, AllocError> {
     let mut desk = growing(alloc, start)?;
     desk.plays(alloc, rt, steps)
@@ -149,7 +149,7 @@ fn out_of_memory_the_leaves_stay(rt: HostRuntime) -> Result<(), Fail> {
     Ok(())
 }
 
-// The merge of a sheet with those that came, from left to right.
+// The merge of a sheet with the new ones, from left to right.
 fn merged_with(
     alloc: Global,
     sheet: &Sheet<Small>,
@@ -181,7 +181,7 @@ fn goes_on<W: Wait>(
     Ok(went && desk.has(want))
 }
 
-// How many of so many steps went right.
+// How many of the steps of a walk succeeded.
 fn walk<W: Wait>(alloc: Global, rt: &W, steps: usize) -> Result<usize, AllocError> {
     let mut desk = growing(alloc, 0)?;
     let mut want = Sheet::empty(alloc, 0)?;

@@ -1,4 +1,4 @@
-//! Leaves of single records, the shifts that bring them, and merges that go past any tree.
+//! Leaves of single records, the shifts that bring them, and merges made without a tree.
 ghost use Rattle.std.specs.Prelude.{◌≡◌, IsTrue};
 ghost use Rattle.job_laws.specs.Meanings.{AllAccepted, meaning_of};
 
@@ -19,7 +19,7 @@ fn all_accepted<J: Job>(job: &J, records: &Records) -> bool
     true
 }
 
-/// The sheet of one record, and an empty one where the job does not accept it.
+/// The sheet of one record; an empty one if the job does not accept it.
 pub(crate) fn leaf<J: Job>(
     alloc: Global,
     job: &J,
@@ -39,7 +39,7 @@ pub(crate) fn leaf<J: Job>(
     Sheet::empty(alloc, job.setting())
 }
 
-/// The sheets of the records of a text, one of each. A record ends with LF.
+/// The sheets of the records of a text, one for each. A record ends with LF.
 pub(crate) fn leaves<J: Job>(
     alloc: Global,
     job: &J,
@@ -57,7 +57,7 @@ pub(crate) fn leaves<J: Job>(
     Ok(sheets)
 }
 
-// Those of the places that rise, one after another.
+// The rising ones of the places, in order.
 fn places_of(alloc: Global, list: &[usize]) -> Result<Places, AllocError> {
     let mut places = Places::new(alloc);
     'places: for i in 0..list.len() {
@@ -68,7 +68,7 @@ fn places_of(alloc: Global, list: &[usize]) -> Result<Places, AllocError> {
     Ok(places)
 }
 
-/// The slide of a window with this first leaf by which so many leaves go, and which brings so many sheets, those of the
+/// The slide of a window with this first leaf, by which `gone` leaves go, and which brings `news` sheets, those of the
 /// changed places first.
 pub(crate) fn slide(
     alloc: Global,
@@ -86,7 +86,7 @@ pub(crate) fn slide(
     })
 }
 
-/// The splice of a document by which so many leaves go from the `first`th on, where so many sheets come.
+/// The splice of a document by which `gone` leaves go from the `first`th on, and `fresh` sheets come.
 pub(crate) fn splice(first: usize, gone: usize, news: usize) -> Shift {
     Shift::Splice {
         first,
@@ -95,7 +95,7 @@ pub(crate) fn splice(first: usize, gone: usize, news: usize) -> Shift {
     }
 }
 
-/// The merge of the sheets from left to right, of those that have the job's setting.
+/// The merge from left to right of those sheets that have the job's setting.
 pub(crate) fn plain<J: Job>(
     alloc: Global,
     job: &J,
@@ -111,7 +111,7 @@ pub(crate) fn plain<J: Job>(
     Ok(all)
 }
 
-/// A sheet's lines, where it has the job's setting.
+/// A sheet's lines, if it has the job's setting.
 pub(crate) fn lines_of<J: Job>(
     alloc: Global,
     job: &J,

@@ -1,4 +1,4 @@
-//! Trees through what the trait says of them, one desk for all kinds. There are tests alone, above the trees, so that no
+//! Tests of trees through the trait alone, with one desk for all kinds. They are a crate above the trees, so that no
 //! tree is proved a second time for its tests.
 #![tactic(auto)]
 

@@ -1,6 +1,6 @@
-//! Documents of small leaves, whose job keeps the value that came last, so that the order of merges shows. Where a group
-//! ends rests on the digests of its members: of the sheets of one letter with the value 1 those of c e h k n o p s t u v w
-//! A D E F G H I J K L M P R U W Y Z are marked, of small letters and of large ones.
+//! Documents of small leaves. The job keeps the last value, so that the order of merges shows. Where a group ends
+//! depends on the digests of its members: of the sheets of one letter with the value 1 those of c e h k n o p s t u v w
+//! A D E F G H I J K L M P R U W Y Z are marked.
 use crate::desk::Desk;
 use crate::steps::{Step, another_runs, at, insists, refuses, runs, tries, works_ahead};
 use crate::walks::{chance, leaves_of_step, splices_on};
@@ -21,14 +21,14 @@ fn document(alloc: Global, start: u64) -> Result<Document, AllocError> {
     Desk::new(alloc, Latest::new(), CountMeter::new(), 1, start)
 }
 
-// How many of the steps went as they are to, before one that did not.
+// How many of the steps went as expected, before one that did not.
 fn plays<W: Wait>(alloc: Global, rt: &W, start: u64, steps: &[Step]) -> Result<usize, AllocError> {
     let mut desk = document(alloc, start)?;
     desk.plays(alloc, rt, steps)
 }
 
-// An edit: so many leaves go from the `first`th on, where leaves of these letters come, each with the value 1. It is to
-// make so many merges.
+// An edit: `gone` leaves go from the `first`th on, and leaves of these letters come, each with the value 1. It must
+// make `merges` merges.
 #[derive(Clone, Copy)]
 struct Edit<'a> {
     first: usize,
@@ -60,7 +60,7 @@ fn leaves_of(
     Ok(news)
 }
 
-// Whether an edit made as many merges as it is to, and left the root as the plain merge of the document's leaves.
+// Whether an edit made as many merges as expected, and left the root as the plain merge of the document's leaves.
 fn takes<W: Wait>(
     desk: &mut Document,
     alloc: Global,
@@ -75,7 +75,7 @@ fn takes<W: Wait>(
     Ok(went && desk.merges().saturating_sub(before) == edit.merges)
 }
 
-// How many of the edits went as they are to at this desk, before one that did not.
+// How many of the edits went as expected at this desk, before one that did not.
 fn takes_all<W: Wait>(
     desk: &mut Document,
     alloc: Global,
@@ -91,7 +91,7 @@ fn takes_all<W: Wait>(
     Ok(edits.len())
 }
 
-// How many of the edits of a new document went as they are to, before one that did not.
+// How many of the edits of a new document went as expected, before one that did not.
 fn edits<W: Wait>(alloc: Global, rt: &W, edits: &[Edit]) -> Result<usize, AllocError> {
     let mut desk = document(alloc, 0)?;
     takes_all(&mut desk, alloc, rt, edits)
@@ -118,8 +118,8 @@ fn an_empty_document_merges_nothing(rt: HostRuntime) -> Result<(), Fail> {
     Ok(())
 }
 
-// The groups are a b c, e f h and i: when j comes for i, it alone is new in the root. When d comes for c, the groups are
-// a b d e, f h and j: new are two merges in the first one, one in the second one, that of both, and the root.
+// The groups are a b c, e f h and i: when j replaces i, only the root is new. When d replaces c, the groups are a b d
+// e, f h and j: new are two merges in the first group, one in the second, that of both, and the root.
 #[test]
 fn a_group_ends_at_a_marked_leaf(rt: HostRuntime) -> Result<(), Fail> {
     let went = plays(
@@ -163,9 +163,9 @@ fn a_group_ends_at_a_marked_leaf(rt: HostRuntime) -> Result<(), Fail> {
     Ok(())
 }
 
-// None of these is marked, so the groups are of 8, 8 and 1. Then m goes, which is the first leaf of the second group, and
-// two groups of 8 are left: new are 7 merges in the second one, and that of both. At last m comes back, behind all others,
-// and is merged with the root of before.
+// None of these is marked, so the groups have 8, 8 and 1 members. Then m leaves, the first leaf of the second group,
+// and two groups of 8 are left: new are 7 merges in the second group, and that of both. At last m comes back, after all
+// others, and is merged with the root before.
 #[test]
 fn a_group_ends_at_its_eighth_leaf(rt: HostRuntime) -> Result<(), Fail> {
     let went = edits(
@@ -237,7 +237,7 @@ fn equal_groups_are_merged_once(rt: HostRuntime) -> Result<(), Fail> {
     Ok(())
 }
 
-// The last leaf goes, which was a group by itself, and then the one before it that has its key.
+// The last leaf leaves, which was a group by itself, then the one before it that has the same key.
 #[test]
 fn the_last_value_of_a_document_wins(rt: HostRuntime) -> Result<(), Fail> {
     let went = plays(
@@ -318,8 +318,8 @@ fn leaves_at_both_ends_go(rt: HostRuntime) -> Result<(), Fail> {
     Ok(())
 }
 
-// Groups were a b c, d e and f g h; then a b c stays, and x y z f g h is a group of six, so new are five merges in it and the
-// root. Back again, all is found.
+// The groups were a b c, d e and f g h; then a b c stays, and x y z f g h is a group of six, so new are five merges in
+// it and the root. When the stretch is put back, all merges are found.
 #[test]
 fn a_stretch_in_the_middle_is_replaced(rt: HostRuntime) -> Result<(), Fail> {
     let went = plays(
@@ -363,7 +363,7 @@ fn a_stretch_in_the_middle_is_replaced(rt: HostRuntime) -> Result<(), Fail> {
     Ok(())
 }
 
-// First d is a group by itself, then d and e are one, which ends there; f begins another one.
+// First d is a group by itself, then d and e are a group, which ends there; f begins another one.
 #[test]
 fn a_leaf_behind_all_others_joins_the_last_group(rt: HostRuntime) -> Result<(), Fail> {
     let went = plays(
@@ -442,7 +442,7 @@ fn a_first_leaf_changes(rt: HostRuntime) -> Result<(), Fail> {
     Ok(())
 }
 
-// The letter n is marked and B is not, so the group of n goes on with o and p, and another one is cut anew.
+// The letter n is marked and B is not, so the group of n goes on with o and p, and another one is made again.
 #[test]
 fn a_leaf_in_the_middle_changes(rt: HostRuntime) -> Result<(), Fail> {
     let went = edits(
@@ -498,7 +498,7 @@ fn a_leaf_comes_behind_all_others(rt: HostRuntime) -> Result<(), Fail> {
     Ok(())
 }
 
-// The second half comes before the first one. What both have in groups of before is found.
+// The second half comes before the first one. The merges in their old groups are found.
 #[test]
 fn a_text_that_moved_is_merged_where_its_groups_changed(rt: HostRuntime) -> Result<(), Fail> {
     let went = edits(
@@ -557,7 +557,8 @@ fn a_draft_of_a_document_that_is_dropped_leaves_no_trace(rt: HostRuntime) -> Res
     Ok(())
 }
 
-// For the drafts f g comes, with a root over it; then a with e; then nothing. The run makes a b with D, and the root.
+// For the drafts f g comes, with a root over it; then a with e; then nothing. The run merges a b with D, and makes the
+// root.
 #[test]
 fn drafts_of_a_document_that_grow_and_shrink_are_dropped(rt: HostRuntime) -> Result<(), Fail> {
     let went = plays(
@@ -618,7 +619,7 @@ fn a_tree_of_an_equal_document_merges_nothing(rt: HostRuntime) -> Result<(), Fai
     Ok(())
 }
 
-// Nor do its oldest ones go as in a window of buckets.
+// Nor do its oldest leaves go as in a window of buckets.
 #[test]
 fn a_document_has_no_leaves_behind_its_end(rt: HostRuntime) -> Result<(), Fail> {
     let went = plays(
@@ -637,8 +638,8 @@ fn a_document_has_no_leaves_behind_its_end(rt: HostRuntime) -> Result<(), Fail> 
     Ok(())
 }
 
-// There are 25 looks for the document; then 3 for the last group, which was open, and 2 over it; and then 6 for two groups in
-// the middle, and 7 over them.
+// There are 25 looks for the document; then 3 for the last group, which was open, and 2 over it; then 6 for two groups
+// in the middle, and 7 over them.
 #[test]
 fn groups_away_from_an_edit_are_not_looked_up(rt: HostRuntime) -> Result<(), Fail> {
     let alloc = rt.alloc();
@@ -714,8 +715,8 @@ fn out_of_memory_the_document_stands(rt: HostRuntime) -> Result<(), Fail> {
     Ok(())
 }
 
-// A step of the walk: whether the root is the plain merge of the document's leaves. Up to three leaves go and come, and at
-// times all go.
+// A step of the walk: whether the root is the plain merge of the document's leaves. Up to three leaves go and come, and
+// sometimes all leave.
 fn goes_on<W: Wait>(
     desk: &mut Document,
     alloc: Global,
@@ -740,7 +741,7 @@ fn goes_on<W: Wait>(
     splices_on(desk, alloc, rt, step, first, gone, news, window, m)
 }
 
-// How many of so many steps went right.
+// How many of the steps of a walk succeeded.
 fn walk<W: Wait>(alloc: Global, rt: &W, steps: usize) -> Result<usize, AllocError> {
     let mut desk = document(alloc, 0)?;
     let mut window = Vec::new(alloc);

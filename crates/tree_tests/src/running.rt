@@ -1,4 +1,4 @@
-//! All that an engine does with a tree, over any tree: the trait alone is enough for it.
+//! All that an engine does with a tree, for any tree: the trait is enough.
 ghost use Rattle.std.specs.Prelude.{◌≡◌, ◌*◌, ◌≤◌, List, ◌++◌, length, All, None, OnOk, OnErr};
 ghost use Rattle.job_laws.specs.Counted.{RoseBy};
 ghost use Rattle.sheets.specs.United.{tables_of};
@@ -14,7 +14,7 @@ use std::alloc::{AllocError, Global};
 use std::sync::Wait;
 use tree_laws::{MergeRecipe, Tree};
 
-/// Takes the shift as the tree's leaves, or leaves it as it was.
+/// Gives the tree the leaves after the shift, or leaves it unchanged.
 pub(crate) fn run_once<J: Job, T: Tree<J>, W: Wait>(
     alloc: Global,
     rt: &W,
@@ -36,7 +36,7 @@ pub(crate) fn run_once<J: Job, T: Tree<J>, W: Wait>(
     ensures ok { OnOk result (IsSettled T.shaped shift.now fresh.now (T.view tree.old) (T.view tree.new)) }
     ensures err { OnErr result (T.view tree.new ≡ T.view tree.old) }
 
-    // Whatever it answers:
+    // Whatever it returns:
     ensures covered { Covered caller.new (T.pins tree.new) }
     ensures balanced { Balanced caller.old (T.pins tree.old) caller.new (T.pins tree.new) }
     ensures few { length (T.pins tree.new) ≤ T.most tree.new }
@@ -54,7 +54,7 @@ pub(crate) fn run_once<J: Job, T: Tree<J>, W: Wait>(
     }
 }
 
-/// Runs a tree and lets it go. Its pins stay on the memo's entries.
+/// Runs a tree and drops it. Its pins stay on the memo's entries.
 pub(crate) fn run_and_drop<J: Job, T: Tree<J>, W: Wait>(
     alloc: Global,
     rt: &W,

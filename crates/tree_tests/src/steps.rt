@@ -1,4 +1,4 @@
-//! What is done at a desk, one step after another, and what is then to be seen.
+//! Steps at a desk, and what they must show.
 use crate::desk::Desk;
 use crate::leaves::splice;
 use job_laws::Job;
@@ -7,14 +7,14 @@ use std::alloc::{AllocError, Global};
 use std::sync::Wait;
 use tree_laws::Tree;
 
-/// What is done with the leaves of a step.
+/// What a step does with its leaves.
 #[derive(Clone, Copy, PartialEq, Eq)]
 enum Deed {
-    /// A run that takes them.
+    /// A run with them.
     Runs,
     /// A run whose draft is dropped.
     Tries,
-    /// A run that is made once more where memory runs out.
+    /// A run that is made once more if memory runs out.
     Insists,
     /// A run of another tree over the same memo.
     AnotherRuns,
@@ -22,9 +22,9 @@ enum Deed {
     WorksAhead,
 }
 
-/// A step: so many leaves go, in a document from the `first`th on and elsewhere the oldest ones, and leaves of the records
-/// of a text come, those of the changed places first. It is to make so many merges, where its window can give this, and
-/// the root is then to have these lines.
+/// A step: `gone` leaves go, in a document from the `first`th on and elsewhere the oldest ones, and leaves of the
+/// records of a text come, those of the changed places first. It must make `merges` merges, if the window can give the
+/// shift, and then the root must have these lines.
 #[derive(Clone, Copy)]
 pub(crate) struct Step<'a> {
     deed: Deed,
@@ -69,7 +69,7 @@ pub(crate) fn tries<'a>(
     }
 }
 
-/// A run that is made once more where memory runs out.
+/// A run that is made once more if memory runs out.
 pub(crate) fn insists<'a>(
     gone: usize,
     changed: &'a [usize],
@@ -82,7 +82,7 @@ pub(crate) fn insists<'a>(
     }
 }
 
-/// A run of another tree, which lets the root of the desk's as it was.
+/// A run of another tree, which leaves the root of the desk's tree unchanged.
 pub(crate) fn another_runs<'a>(records: &'a [u8], merges: u64, lines: &'a [u8]) -> Step<'a> {
     Step {
         deed: Deed::AnotherRuns,
@@ -120,7 +120,7 @@ pub(crate) fn at<'a>(first: usize, step: Step<'a>) -> Step<'a> {
 }
 
 impl<J: Job, T: Tree<J>> Desk<J, T> {
-    /// How many of the steps went as they are to before one that did not.
+    /// How many of the steps went as expected before one that did not.
     pub(crate) fn plays<W: Wait>(
         &mut self,
         alloc: Global,
@@ -135,7 +135,7 @@ impl<J: Job, T: Tree<J>> Desk<J, T> {
         Ok(steps.len())
     }
 
-    // Whether a step went as it is to.
+    // Whether a step went as expected.
     fn plays_one<W: Wait>(
         &mut self,
         alloc: Global,
@@ -153,7 +153,7 @@ impl<J: Job, T: Tree<J>> Desk<J, T> {
         Ok(as_counted && self.shows(alloc, step.lines)?)
     }
 
-    // Does what the step says with its leaves; whether the window can give it.
+    // Does the step with its leaves. Returns whether the window can give the shift.
     fn does<W: Wait>(
         &mut self,
         alloc: Global,

@@ -1,4 +1,4 @@
-//! Walks: what a desk does beside a plain list of its window's leaves, whose merge goes past any tree.
+//! Walks: a desk compared with a plain list of its window's leaves, which is merged without a tree.
 use crate::desk::Desk;
 use crate::leaves::{leaf, splice};
 use job_laws::{CountMeter, Job};
@@ -9,12 +9,12 @@ use std::alloc::{AllocError, Global};
 use std::sync::Wait;
 use tree_laws::Tree;
 
-/// A number that looks like chance, after the one before it.
+/// The next pseudo-random number.
 pub(crate) fn chance(before: u32) -> u32 {
     before.wrapping_mul(1103515245).wrapping_add(12345)
 }
 
-/// So many leaves of a step of a walk. Their keys come again at other steps, with other values.
+/// The leaves of a step of a walk. Their keys come again at other steps, with other values.
 pub(crate) fn leaves_of_step(
     alloc: Global,
     step: usize,
@@ -31,7 +31,7 @@ pub(crate) fn leaves_of_step(
     Ok(news)
 }
 
-/// A run by the shift, at each third step after a draft of it that is dropped: whether the window can give it.
+/// A run by the shift; at each third step a draft of it is dropped first. Returns whether the window can give it.
 pub(crate) fn goes<J: Job, T: Tree<J>, W: Wait>(
     desk: &mut Desk<J, T>,
     alloc: Global,
@@ -46,8 +46,8 @@ pub(crate) fn goes<J: Job, T: Tree<J>, W: Wait>(
     desk.runs(alloc, rt, shift, news)
 }
 
-/// A step by a slide, by which so many of the oldest leaves go, and which brings these sheets, those of the changed places
-/// first: whether the root is then the plain merge of the window's leaves.
+/// A step by a slide, by which `gone` of the oldest leaves go, and which brings these sheets, those of the changed
+/// places first. Returns whether the root is then the plain merge of the window's leaves.
 pub(crate) fn slides_on<J: Job, T: Tree<J>, W: Wait>(
     desk: &mut Desk<J, T>,
     alloc: Global,
@@ -65,8 +65,8 @@ pub(crate) fn slides_on<J: Job, T: Tree<J>, W: Wait>(
     Ok(went && desk.is_merge_of(alloc, window.as_slice(), m)?)
 }
 
-/// A step by a splice, by which so many leaves go from the `first`th on, where these sheets come: whether the root is then
-/// the plain merge of the document's leaves.
+/// A step by a splice, by which `gone` leaves go from the `first`th on, and these sheets come. Returns whether the root
+/// is then the plain merge of the document's leaves.
 pub(crate) fn splices_on<J: Job, T: Tree<J>, W: Wait>(
     desk: &mut Desk<J, T>,
     alloc: Global,
@@ -120,7 +120,7 @@ fn is_spliced<J: Job>(
     window.append(&mut behind)
 }
 
-// So many sheets go from the front, or all.
+// Removes a number of sheets from the front, or all.
 fn goes_first<J: Job>(sheets: &mut Vec<Sheet<J>>, gone: usize) {
     'gone: for _ in 0..gone {
         if !sheets.is_empty() {

@@ -6,7 +6,7 @@ ghost use Rattle.tree_tests.specs.Desks.{count_after};
 
 use record_text::{Kind, Places, Shift};
 
-/// How many places it has, the number of the first leaf, and how many leaves stand.
+/// How many places it has, the number of the first leaf, and how many leaves there are.
 #[derive(Clone, Copy)]
 pub(crate) struct Window {
     pub(crate) places: u32,
@@ -15,7 +15,7 @@ pub(crate) struct Window {
 }
 
 impl Window {
-    /// Whether a window of this kind can give the shift, which brings so many sheets.
+    /// Whether a window of this kind can give the shift, which brings `news` sheets.
     pub(crate) fn fits(&self, kind: Kind, news: usize, shift: &Shift) -> bool
         ensures { IsTrue result → FitsShift kind self.now.places self.now.first self.now.count news shift.now }
     {
@@ -92,7 +92,7 @@ impl Window {
         }
     }
 
-    // Whether a slide takes of the leaves that stand, and brings what it says.
+    // Whether a slide removes present leaves, and brings what it says.
     fn slides(&self, first: u64, gone: usize, places: &Places, fresh: usize, news: usize) -> bool
         ensures { IsTrue result → IsSlideOf self.now.first self.now.count news first gone places.now fresh }
     {
@@ -104,7 +104,7 @@ impl Window {
             && all_below(places, self.count - gone)
     }
 
-    /// The window after a shift, where its leaves can be counted.
+    /// The window after a shift, if its leaves can be counted.
     pub(crate) fn after(&self, shift: &Shift) -> Option<Window>
         ensures places { IfSome result (λ w. w.places ≡ self.now.places) }
         ensures first { IfSome result (λ w. w.first ≡ first_after shift.now self.now.first) }
@@ -138,7 +138,7 @@ impl Window {
     }
 }
 
-/// Whether all places stand before the `n`th.
+/// Whether all places come before the `n`th.
 pub(crate) fn all_below(places: &Places, n: usize) -> bool
     ensures { IsTrue result → All (λ p. p < n) places.now }
 {

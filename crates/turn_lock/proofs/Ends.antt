@@ -1,4 +1,4 @@
--- What is left once every pass has been joined into one.
+-- What is left after all passes are joined into one.
 use Rattle.std.proofs.Common.{◌≡◌, ◌≢◌, ℕ, zero, suc, ◌+◌, ◌≤◌, List, [], ◌∷◌, ◌++◌, length, sym, refl, ap, ◌∙◌, subst, inl, inr, ⊎_elim, arith}
 use Rattle.std.specs.Prelude.{Option, Some}
 use mathlib.Core.Option.{some, some-injective, some-ne-none}

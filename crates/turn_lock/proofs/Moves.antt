@@ -23,7 +23,8 @@ module _ {T E : Type 0} (history : T → List E) (whose : E → Option ℕ) (sta
   abbrev pub K : St → Type 0
   K = TurnRule history whose start callers
 
-  -- what a step of the seat id owes, where its view goes from v to w, the history to log and the next ticket to ticket
+  -- what a step of the seat id must show, where its view goes from v to w, the history to log and the next ticket to
+  -- ticket
   pub record Owes (s : St) (r : K s) (id : ℕ) (v w : View E) (log : List E) (ticket : ℕ) (homes : List (maybe.Option (Option T))) : Type 0 where
     pub here : get_elem? s.views id ≡ some v
     pub lived : Live v.stage

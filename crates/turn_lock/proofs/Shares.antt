@@ -81,7 +81,7 @@ module _ {T E : Type 0} (history : T → List E) (whose : E → Option ℕ) (sta
     same_or : (k : ℕ) (u : View E) → get_elem? s.views k ≡ some u → k ≡ id → u ≡ v
     same_or k u at e = same_at s.views k id u v at here e
 
-    -- where an old view has something that only stage, own and ended tell, so has the view at its place
+    -- if an old view has something that depends only on stage, own and ended, so has the view at its place
     goes_on : (P : Stage E → Known E → List (Known E) → Type 0) → ((k : ℕ) × (u : View E) × (get_elem? s.views k ≡ some u) × P u.stage u.own u.ended) → (k : ℕ) × (u : View E) × (get_elem? V k ≡ some u) × P u.stage u.own u.ended
     goes_on P (k, u, at, p) = dite (ℕ_discrete k id)
         (λ e. (id, without_one v, at_id, subst (λ (z : View E). P z.stage z.own z.ended) (same_or k u at e) p))
@@ -202,7 +202,7 @@ module _ {T E : Type 0} (history : T → List E) (whose : E → Option ℕ) (sta
         (λ k u ni nt at lv. let q = r.seats k u at lv in record { callers_is = q.callers_is; number = q.number; own = q.own; stage = q.stage; gives = (λ p. let z = q.gives p in (z.0, (let a = z.1 in let l = jlong in omega arith))); ended = j_ends u.ended q.ended })
         (λ lv. absurd lv)
 
-    -- what one of the ended knew, the kept one has
+    -- what an ended pass knew, the kept one knows
     j_in : (i : ℕ) (x : Known E) → get_elem? v.ended i ≡ some x → (j : ℕ) × (get_elem? (w.ended ++ w.own ∷ v.ended) j ≡ some x)
     j_in i x at = at_second w.ended (w.own ∷ v.ended) x (suc i) at
 
@@ -217,7 +217,7 @@ module _ {T E : Type 0} (history : T → List E) (whose : E → Option ℕ) (sta
         (λ e. inr (id, with v w, i, x, j_at_id, jlive, at_longer w.ended (w.own ∷ v.ended) i x (subst (λ (z : View E). get_elem? z.ended i ≡ some x) (same_at s.views j other u w at there e) in_ended), is))
         (λ nt. inr (j, u, i, x, j_at_old j u ni nt at, lv, in_ended, is)))
 
-    -- another view that is neither idle nor spent stands as before
+    -- another view that is neither idle nor spent is unchanged
     j_other : (P : Stage E → Type 0) → ¬ (P Idle) → ((k : ℕ) × (u : View E) × (get_elem? s.views k ≡ some u) × P u.stage) → (k : ℕ) × (u : View E) × (get_elem? J k ≡ some u) × P u.stage
     j_other P not (k, u, at, p) = (
       k,

@@ -41,7 +41,7 @@ module _ {T E : Type 0} (history : T → List E) (whose : E → Option ℕ) (sta
   abbrev Holds : S → Type 0
   Holds = TurnRule history whose start callers
 
-  -- another seat has P, where this one has not
+  -- another seat has P, if this one has not
   other : (P : View E → Type 0) (views : List (View E)) (id : ℕ) (v : View E) → get_elem? views id ≡ some v → ¬ (P v) → ((k : ℕ) × (u : View E) × (get_elem? views k ≡ some u) × P u)
       → (k : ℕ) × (u : View E) × (k ≢ id) × (get_elem? views k ≡ some u) × P u
   other P views id v here not (k, u, at, p) = (k, u, (λ e. not (subst P (some-injective u v (sym at ∙ (ap (get_elem? views) e ∙ here))) p)), at, p)
@@ -185,7 +185,7 @@ module _ {T E : Type 0} (history : T → List E) (whose : E → Option ℕ) (sta
       } in
       (w, keeps, tt, moved history whose start callers s r id v w r.log (t + 1) s.homes o (set s.words 0 ((n + 1) % 2 ^ 64)) words, refl)
 
-  -- the words stay where one of them is written as it was
+  -- the words stay the same if one of them is overwritten with its value
   rewritten : (s : S) (r : Holds s) → set s.words 1 (get_or s.words 1 0) ≡ s.words
   rewritten s r = ap₂ (λ (l : List ℕ) (m : ℕ). set l 1 m) r.words_are (turn_of s r) ∙ sym r.words_are
 

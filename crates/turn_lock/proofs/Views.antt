@@ -13,7 +13,7 @@ use Rattle.turn_lock.specs.Rule.{Begins, Live, IsServing, HasDrawn, mark_of, mar
 use Rattle.shared_seats.specs.Seats.{total}
 
 module _ {A : Type 0} where
-  -- in x ∷ ys behind xs
+  -- in x ∷ ys after xs
   pub at_both : (xs ys : List A) (y b : A) (j : ℕ) → get_elem? (xs ++ y ∷ ys) j ≡ some b → (get_elem? xs j ≡ some b) ⊎ ((y ≡ b) ⊎ ((i : ℕ) × (get_elem? ys i ≡ some b)))
   at_both [] ys y b zero e = inr (inl (some-injective y b e))
   at_both [] ys y b (suc j) e = inr (inr (j, e))
@@ -46,7 +46,7 @@ module _ {E : Type 0} (whose : E → Option ℕ) where
   not_of n m o (inl e) ne = ap (is_of m) e ∙ ne_eqb n m (λ h. ne (sym h))
   not_of n m o (inr e) ne = ap (is_of m) e
 
-  -- an entry that stands under n or nowhere stands under no other number
+  -- an entry that is under n or under no number is under no other number
   pub under-other : (n m : ℕ) (log : List E) (e : E) → (whose e ≡ Some n) ⊎ (whose e ≡ None) → m ≢ n → under whose m (log ++ e ∷ []) ≡ under whose m log
   under-other n m log e w ne = under-append m log (e ∷ []) ∙ (ap (λ (l : List E). under whose m log ++ l) (ap (λ (b : Bool). cond b (e ∷ []) []) (not_of n m (whose e) w ne)) ∙ append-nil (under whose m log))
 

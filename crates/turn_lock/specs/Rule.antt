@@ -24,7 +24,7 @@ module _ {E : Type 0} where
   abbrev pub newcomer : ℕ → View E
   newcomer callers = record { callers = callers; own = known 0 [] [] 0; stage = Idle; gives = callers - 1; ended = [] }
 
-  -- The first view, with so many passes still to make.
+  -- The first view, with a number of passes still to make.
   abbrev pub dealt : ℕ → ℕ → View E
   dealt callers left = record { callers = callers; own = known 0 [] [] 0; stage = Idle; gives = left; ended = [] }
 
@@ -36,14 +36,14 @@ module _ {E : Type 0} where
   abbrev pub turned_to : Stage E → ℕ → View E → View E
   turned_to st read v = record { callers = v.callers; own = known v.own.number v.own.seen v.own.mine read; stage = st; gives = v.gives; ended = v.ended }
 
-  -- What a view and a new one are when a pass is made.
+  -- A view and a new one, when a pass is made.
   abbrev pub without_one : View E → View E
   without_one v = record { callers = v.callers; own = v.own; stage = v.stage; gives = v.gives - 1; ended = v.ended }
 
   abbrev pub the_one : View E → View E
   the_one v = record { callers = v.callers; own = known (v.callers - v.gives) v.own.seen [] v.own.read; stage = Idle; gives = 0; ended = [] }
 
-  -- A view that takes in another.
+  -- A view that another was joined into.
   abbrev pub with : View E → View E → View E
   with v w = record { callers = v.callers; own = v.own; stage = v.stage; gives = v.gives; ended = w.ended ++ w.own ∷ v.ended }
 
@@ -52,7 +52,7 @@ module _ {E : Type 0} where
   Live Spent = ⊥
   Live _ = Unit {0}
 
-  -- It has a note that its turn has come.
+  -- It knows that its turn has come.
   abbrev pub IsServing : Stage E → Type 0
   IsServing (Serving n note) = Unit {0}
   IsServing _ = ⊥
@@ -71,16 +71,16 @@ module _ {E : Type 0} where
   abbrev pub marks : View E → ℕ
   marks v = mark_of v.stage
 
-  -- Nothing where it is spent.
+  -- Nothing if it is spent.
   abbrev pub parts_of : Stage E → ℕ → ℕ
   parts_of Spent n = 0
   parts_of _ n = n
 
-  -- How many passes it stands for.
+  -- How many passes it represents.
   abbrev pub parts : View E → ℕ
   parts v = parts_of v.stage (v.gives + length v.ended + 1)
 
-  -- A ticket that was drawn is not served yet; the one that is served has the whole history in its note.
+  -- A ticket that was drawn is not served yet; the seat that is served knows the whole history.
   abbrev pub InStage : ℕ → List E → ℕ → Stage E → Type 0
   InStage start log ticket (Drawn n) = (start + length log ≤ n) × (n < ticket)
   InStage start log ticket (Serving n note) = (n ≡ start + length log) × (n < ticket) × (note ≡ log)
@@ -90,7 +90,7 @@ module _ {E : Type 0} where
   abbrev pub IsSpent : List (View E) → ℕ → Type 0
   IsSpent views n = (w : View E) × (get_elem? views n ≡ some w) × (w.stage ≡ Spent)
 
-  -- Somebody's last turn is the last of all.
+  -- Its last turn is the last of all.
   abbrev pub HasAll : List E → View E → Type 0
   HasAll log v = (v.own.seen ≡ log) ⊎ ((i : ℕ) × (x : Known E) × (get_elem? v.ended i ≡ some x) × (x.seen ≡ log))
 
@@ -100,14 +100,14 @@ module _ {E : Type 0} where
       ⊎ ((k : ℕ) × (v : View E) × (i : ℕ) × (x : Known E) × (get_elem? views k ≡ some v) × Live v.stage × (get_elem? v.ended i ≡ some x) × (x.number ≡ n))
 
 module _ {E : Type 0} (whose : E → Option ℕ) where
-  -- What a pass knows, held against the history and the next ticket.
+  -- What a pass knows fits the history and the next ticket.
   pub record KnownFits (log : List E) (ticket : ℕ) (x : Known E) : Type 0 where
     pub seen : Begins log x.seen
     pub mine : under whose x.number log ≡ x.mine
     pub same : under whose x.number x.seen ≡ x.mine
     pub read : x.read ≤ ticket
 
-  -- One view, held against the others: the view in place k has number k.
+  -- One view fits the others: the view at place k has number k.
   pub record SeatFits (start callers : ℕ) (views : List (View E)) (log : List E) (ticket k : ℕ) (v : View E) : Type 0 where
     pub callers_is : v.callers ≡ callers
     pub number : v.own.number ≡ k
@@ -135,23 +135,23 @@ module _ {T E : Type 0} (history : T → List E) where
     pub behind : start + length log ≤ ticket
     pub limit : (start ≤ 2 ^ 62) × (callers ≤ 64)
     pub seats : (k : ℕ) (v : View E) → get_elem? s.views k ≡ some v → Live v.stage → SeatFits whose start callers s.views log ticket k v
-    -- Each ticket that waits is held by a view, and by one alone.
+    -- Each waiting ticket is held by exactly one view.
     pub whom : (n : ℕ) → start + length log ≤ n → n < ticket → (k : ℕ) × (v : View E) × (get_elem? s.views k ≡ some v) × HasDrawn v.stage n
     pub apart : (j k : ℕ) (v w : View E) (n : ℕ) → get_elem? s.views j ≡ some v → get_elem? s.views k ≡ some w → HasDrawn v.stage n → HasDrawn w.stage n → j ≡ k
     -- So no word wraps.
     pub few : ticket + total marks s.views ≤ 2 ^ 62 + callers
-    -- The views stand for all passes.
+    -- The views represent all passes.
     pub shared : total parts s.views ≡ callers
     pub within : length s.views ≤ callers
-    -- Nothing stands under a number that is still to be given out.
+    -- No entry is under a number that is still to be given out.
     pub given : (n : ℕ) → length s.views ≤ n → under whose n log ≡ []
     pub all : (n : ℕ) → n < length s.views → Stands s.views n
     -- Some pass has seen all.
     pub last : (k : ℕ) × (v : View E) × (get_elem? s.views k ≡ some v) × Live v.stage × HasAll log v
-    -- The state is at home with the history, or out with the one that is served.
+    -- The state is at home with the history, or out with the seat that is served.
     pub slot : Home log s.homes ⊎ ((s.homes ≡ none ∷ []) × ((k : ℕ) × (v : View E) × (get_elem? s.views k ≡ some v) × IsServing v.stage))
 
-  -- What the steps tell: the seat before, the number found, the seat after.
+  -- What the steps show: the seat before, the number found, the seat after.
 
   abbrev pub Mine : Type 0
   Mine = Me (Option T) (View E)
@@ -168,7 +168,7 @@ module _ {T E : Type 0} (history : T → List E) where
   abbrev pub Came : (E → Option ℕ) → ℕ → Mine → Mine → Type 0
   Came whose d m n = (t : T) × (n ≡ (turned_to (Serving d (history t)) m.0.own.read m.0, (0, Some t) ∷ m.1)) × (length (history t) < 2 ^ 63) × (under whose m.0.own.number (history t) ≡ m.0.own.mine) × (under whose m.0.own.number m.0.own.seen ≡ m.0.own.mine) × Begins (history t) m.0.own.seen
 
-  -- The turn has come where the number found is the ticket, and else nothing happens.
+  -- The turn has come if the number found is the ticket; otherwise nothing happens.
   abbrev pub looked : (E → Option ℕ) → Step (Option T) → Mine → ℕ → Mine → Type 0
   looked whose st m r n = (d : ℕ) → m.0.stage ≡ Drawn d → (r ≡ d → Came whose d m n) × (r ≢ d → n ≡ m)
 

@@ -9,7 +9,7 @@ pub record LockView : Type 0 where
   pub start : ℕ
   pub callers : ℕ
 
--- Whose lock's a pass is, and what its holder knows.
+-- The lock of a pass, and what its holder knows.
 pub record PassView (E : Type 0) : Type 0 where
   pub lock : TableId
   pub known : Known E

@@ -1,4 +1,5 @@
-//! How a lock is made and closed: one seat is divided into as many passes as there are callers, and at the end they are joined again.
+//! How a lock is made and closed: one seat is divided into as many passes as there are callers, and at the end these
+//! are joined again.
 ghost use Rattle.std.specs.Prelude.{◌≡◌, ℕ, ◌+◌, ◌-◌, ◌^◌, ◌<◌, ◌≤◌, List, [], ◌∷◌, ◌++◌, map, length, vec_len, vec_capacity, Some, None, IfOk, All};
 ghost use Rattle.turn_lock.specs.declared.knowledge.Stage.TheVariants.{Idle};
 ghost use Rattle.turn_lock.specs.Rule.{without_one, the_one, with, dealt};
@@ -16,7 +17,7 @@ use atomic_table::{Refused, Seat, Table};
 use std::alloc::{AllocError, Global};
 
 impl<T: Turns> TurnLock<T> {
-    // A seat for the next number that this one has to give out.
+    // A seat for the next number that this one gives out.
     fn split(&self, seat: &mut Seat<Option<T>, View<T::Entry>>) -> Seat<Option<T>, View<T::Entry>>
         requires { (seat.old.table_id ≡ self.now.id) × (seat.old.me.0.stage ≡ Idle) × (0 < seat.old.me.0.gives) }
         ensures { (seat.new.table_id ≡ seat.old.table_id) × (result.table_id ≡ seat.old.table_id) × (seat.new.me ≡ (without_one seat.old.me.0, seat.old.me.1)) × (result.me ≡ (the_one seat.old.me.0, [])) }
@@ -24,7 +25,7 @@ impl<T: Turns> TurnLock<T> {
         self.table.shared.split_seat::<Deal>(seat)
     }
 
-    // What the other seat knew goes to the list of what has ended.
+    // What the other seat knew goes into the list of ended passes.
     fn join(
         &self,
         kept: &mut Seat<Option<T>, View<T::Entry>>,
@@ -57,7 +58,7 @@ impl<T: Turns> TurnLock<T> {
         }
     }
 
-    /// The state, once every pass has been given back. It takes no memory.
+    /// Gives the state back, once every pass is given back. It takes no memory.
     pub fn close(self, mut passes: Vec<Pass<T>>) -> T
         requires of { All (λ p. p.lock ≡ self.id) passes.items }
         requires all { vec_len passes ≡ self.callers }
@@ -99,7 +100,7 @@ impl<T: Turns + Drop> TurnLock<T> {
     ///
     /// # Errors
     ///
-    /// Want of memory. The state is dropped.
+    /// Out of memory. The state is dropped.
     pub fn new(
         alloc: Global,
         state: T,
@@ -118,7 +119,7 @@ impl<T: Turns + Drop> TurnLock<T> {
     ///
     /// # Errors
     ///
-    /// Want of memory. The state is dropped.
+    /// Out of memory. The state is dropped.
     pub fn starting_at(
         alloc: Global,
         n: u64,

@@ -1,21 +1,21 @@
-//! What a pass knows. These types are for the proofs alone: no value of them is ever made.
+//! What a pass knows. These types are only for proofs: no value of them is ever made.
 use std::collections::LinkedList;
 
 /// What the holder of one pass knows.
 pub struct Known<E> {
-    /// The number that it plays under.
+    /// The number under which it plays.
     pub number: u64,
     /// The history up to its last turn.
     pub seen: LinkedList<E>,
-    /// The entries of it that stand under its number.
+    /// The entries of it that are under its number.
     pub mine: LinkedList<E>,
     /// The ticket that its last check found.
     pub read: u64,
 }
 
-/// Where a seat is within a turn.
+/// The stage of a turn that a seat is in.
 pub enum Stage<E> {
-    /// The view has gone into another.
+    /// The view was joined into another.
     Spent,
     /// Between two turns.
     Idle,
@@ -33,8 +33,8 @@ pub struct View<E> {
     pub callers: u64,
     pub own: Known<E>,
     pub stage: Stage<E>,
-    /// How many numbers it has still to give out.
+    /// How many numbers it still has to give out.
     pub gives: u64,
-    /// What the passes knew that were joined into it.
+    /// What the passes that were joined into it knew.
     pub ended: LinkedList<Known<E>>,
 }

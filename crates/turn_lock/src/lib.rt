@@ -1,9 +1,9 @@
-//! A lock over a state that keeps its history, which its holders take in numbered turns.
+//! A ticket lock, after Mellor-Crummey and Scott (1991), over a state that keeps its history.
 //!
-//! Start with [`Turns`], the state behind the lock, and [`TurnLock::turn`]. Each holder has a [`Pass`], whose view is what
-//! its holder knows: the history up to its last turn, and its own entries in it.
-//! A turn costs five atomic steps where nobody waits. Memory is taken in `new` and `starting_at` alone.
-//! Nothing is promised of fairness, or that a turn ever comes.
+//! Start with [`Turns`], the state behind the lock, and [`TurnLock::turn`]. A [`Pass`] is the right to take turns; its
+//! view is what its holder knows: the history up to its last turn, and its own entries in it. A turn costs five atomic
+//! steps if nobody waits. Only `new` and `starting_at` take memory. Fairness is not promised, nor that a turn ever
+//! comes.
 #![tactic(auto)]
 
 mod dealing;

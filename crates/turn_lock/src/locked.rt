@@ -1,4 +1,4 @@
-//! A turn, in its steps: a check, a ticket, the wait for it, the play on the state, and the step to the next ticket.
+//! The steps of a turn: a check, a ticket, the wait for it, the play on the state, and the step to the next ticket.
 ghost use Rattle.std.specs.Prelude.{◌≡◌, ◌≢◌, ℕ, ◌+◌, ◌^◌, ◌<◌, ◌≤◌, ◌⊎◌, List, [], ◌∷◌, ◌++◌, length, Some, None, IfOk, IfErr};
 ghost use mathlib.Core.Option.{none};
 ghost use Rattle.atomic_table.specs.Table.{step, rest};
@@ -24,11 +24,11 @@ const SERVING: usize = 1;
 // A lock is worn from this ticket on.
 const LIMIT: u64 = 1 << 62;
 
-// After so many looks a waiter sleeps. Before, it lets others run, since many turns are short.
+// A waiter sleeps after this many looks. Until then it lets others run between looks, since many turns are short.
 const LOOKS_AWAKE: u32 = 200;
 
 impl<T: Turns> TurnLock<T> {
-    // Finds the next ticket, and marks the seat where it is below the limit.
+    // Loads the next ticket, and marks the seat if it is below the limit.
     fn check(&self, seat: &mut Seat<Option<T>, View<T::Entry>>) -> u64
         requires { (seat.old.table_id ≡ self.now.id) × (seat.old.me.0.stage ≡ Idle) }
         ensures { (seat.new.table_id ≡ seat.old.table_id) × checked T.history (step 1 0 0 0 none) seat.old.me result seat.new.me }
@@ -36,7 +36,7 @@ impl<T: Turns> TurnLock<T> {
         self.table.shared.load::<Check<T>>(seat, TICKET)
     }
 
-    // Takes the next ticket. Only a marked seat may, so the word can't wrap.
+    // Draws the next ticket. Only a marked seat may, so the word cannot wrap.
     fn draw(&self, seat: &mut Seat<Option<T>, View<T::Entry>>) -> u64
         requires { (seat.old.table_id ≡ self.now.id) × (seat.old.me.0.stage ≡ Marked) }
         ensures { (seat.new.table_id ≡ seat.old.table_id) × drew T.history (step 1 0 1 0 none) seat.old.me result seat.new.me }
@@ -44,7 +44,8 @@ impl<T: Turns> TurnLock<T> {
         self.table.shared.fetch_add::<Draw<T>>(seat, TICKET, 1)
     }
 
-    // Looks until the ticket's turn has come. Between two looks it lets others run, and later sleeps while the word stays. The last look takes the slot.
+    // Looks until the ticket's turn has come. Between looks it lets others run, and later sleeps while the word stays
+    // the same. The last look takes the slot.
     fn await_turn<R: Wait>(&self, rt: &R, seat: &mut Seat<Option<T>, View<T::Entry>>, drawn: u64)
         requires { (seat.old.table_id ≡ self.now.id) × (seat.old.me.0.stage ≡ Drawn drawn) }
         ensures { (seat.new.table_id ≡ seat.old.table_id) × Came T.history T.whose drawn seat.old.me seat.new.me }
@@ -67,7 +68,7 @@ impl<T: Turns> TurnLock<T> {
         unreachable!()
     }
 
-    // The state out of the slot.
+    // Takes the state out of the slot.
     fn take(&self, seat: &mut Seat<Option<T>, View<T::Entry>>) -> T
         requires { (seat.old.table_id ≡ self.now.id) × ((t : T) × (seat.old.me.1 ≡ (0, Some t) ∷ [])) }
         ensures { (seat.new.table_id ≡ seat.old.table_id) × (seat.new.me.0 ≡ seat.old.me.0) × (seat.old.me.1 ≡ (0, Some result) ∷ []) × (seat.new.me.1 ≡ (0, None) ∷ []) }
@@ -75,7 +76,7 @@ impl<T: Turns> TurnLock<T> {
         self.table.shared.exchange(seat, 0, None).unwrap()
     }
 
-    // The state back into the slot.
+    // Puts the state back into the slot.
     fn put(&self, seat: &mut Seat<Option<T>, View<T::Entry>>, state: T)
         requires { (seat.old.table_id ≡ self.now.id) × (seat.old.me.1 ≡ (0, None) ∷ []) }
         ensures { (seat.new.table_id ≡ seat.old.table_id) × (seat.new.me.0 ≡ seat.old.me.0) × (seat.new.me.1 ≡ (0, Some state) ∷ []) }
@@ -86,7 +87,7 @@ impl<T: Turns> TurnLock<T> {
         }
     }
 
-    // Gives the slot back and serves the next ticket. It wakes the sleepers where that ticket is drawn.
+    // Gives the slot back and serves the next ticket. If that ticket is drawn, it wakes the sleepers.
     fn pass_on(&self, seat: &mut Seat<Option<T>, View<T::Entry>>)
         requires seat { (seat.old.table_id ≡ self.now.id) }
         requires turn { (d : ℕ) × (note : List T.Entry) × (t : T) × (e : T.Entry) × (seat.old.me.0.stage ≡ Serving d note) × (seat.old.me.1 ≡ (0, Some t) ∷ []) × (T.history t ≡ note ++ e ∷ []) × ((T.whose e ≡ Some seat.old.me.0.own.number) ⊎ (T.whose e ≡ None)) }
@@ -98,11 +99,13 @@ impl<T: Turns> TurnLock<T> {
         }
     }
 
-    /// Takes a turn: plays `op` under the pass's number, once those who drew a ticket before have had theirs.
+    /// Takes a turn: plays `op` under the pass's number, after the turns of those who drew a ticket before. It may
+    /// block.
     ///
     /// # Errors
     ///
-    /// `Worn` exactly where the next ticket stood at 2^62 or more at this call's check. Nothing was played.
+    /// `Worn` exactly if this call's check found the next ticket at 2^62 or more. Nothing was played, and `op` comes
+    /// back.
     pub fn turn<R: Wait>(
         &self,
         rt: &R,

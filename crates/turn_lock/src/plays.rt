@@ -1,4 +1,5 @@
-//! What each step tells the pass that makes it, and what dividing and joining passes does. These types are for the proofs alone.
+//! What each step shows the pass that makes it, and what dividing and joining passes does. These types are only for
+//! proofs.
 ghost use Rattle.turn_lock.specs.Rule.{checked, drew, looked, passed, without_one, the_one, with, spent};
 
 use crate::knowledge::View;

@@ -4,7 +4,7 @@ use crate::state::Turns;
 use atomic_table::TableRule;
 use std::marker::PhantomData;
 
-/// What a lock is made with.
+/// The parameters of a lock.
 #[derive(Drop)]
 pub struct Setup {
     pub start: u64,

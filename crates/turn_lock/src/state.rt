@@ -1,30 +1,30 @@
-//! The state behind the lock: what it may be asked, and how it keeps an entry of each turn in its history.
+//! The state behind the lock: its operations, and its history, which has an entry of each turn.
 ghost use Rattle.std.specs.Prelude.{◌≡◌, ℕ, ◌<◌, ◌^◌, ◌⊎◌, List, [], ◌∷◌, ◌++◌, length, Option, Some, None};
 ghost use Rattle.turn_lock.specs.Under.{under};
 
-/// A state that is changed by turns, and that keeps an entry of each.
+/// A state that changes by turns and keeps an entry of each.
 pub trait Turns {
-    /// What may be asked of it.
+    /// The operations.
     type Op;
 
-    /// What it answers.
+    /// The replies.
     type Reply;
 
-    /// What its history is made of. Only proofs name it.
+    /// The entries of its history. Only proofs use them.
     type Entry;
 
     // The entries that the state keeps, the oldest first.
     ghost history: { Self → List Self.Entry };
-    // The number under which an entry stands, if any.
+    // The number under which an entry is, if any.
     ghost whose: { Self.Entry → Option ℕ };
-    // An entry says of a turn what was asked and what was answered.
+    // An entry says which operation a turn asked for, and its reply.
     ghost answers: { Self.Entry → Self.Op → Self.Reply → Type 0 };
-    // May be asked by one under whose number these entries stand.
+    // The operation is allowed for a pass with these entries under its number.
     ghost may: { List Self.Entry → Self.Op → Type 0 };
-    // Holds of each history that a turn leaves.
+    // Holds of every history that a turn leaves.
     ghost legal: { List Self.Entry → Type 0 };
 
-    /// Plays one turn under the number `who`: one entry more stands at the end of the history.
+    /// Plays one turn under the number `who`, which adds one entry at the end of the history.
     fn play(&mut self, who: u64, op: Self::Op) -> Self::Reply
         requires room { length (history self.old) < 2 ^ 63 }
         requires may { may (under whose who (history self.old)) op }

@@ -7,7 +7,7 @@ use std::sync::Wait;
 use std::test::Fail;
 use std::thread;
 
-/// What a turn added and answered, and under which number, or none where there was no room to note it.
+/// What a turn added and returned, and under which number; no number if there was no room to note it.
 #[derive(Drop)]
 struct Addition {
     who: Option<u64>,
@@ -15,7 +15,7 @@ struct Addition {
     sum: u64,
 }
 
-/// A sum, its noted additions, and how many came after there was no more room.
+/// A sum, its noted additions, and how many came when there was no more room.
 #[derive(Drop)]
 struct Sum {
     total: u64,
@@ -70,7 +70,7 @@ impl Turns for Sum {
     }
 }
 
-/// A turn by the pass that stands at this place.
+/// A turn by the pass at this place.
 fn turn_at<R: Wait>(
     rt: &R,
     lock: &TurnLock<Sum>,
@@ -115,7 +115,7 @@ fn a_worn_lock_refuses(rt: HostRuntime) -> Result<(), Fail> {
     Ok(())
 }
 
-/// Takes so many turns, each of which adds one.
+/// Takes `turns` turns, each of which adds one.
 fn adds<R: Wait>(rt: &R, lock: &TurnLock<Sum>, pass: &mut Pass<Sum>, turns: u64)
     requires { pass.old.lock ≡ lock.now.id }
     ensures { pass.new.lock ≡ lock.now.id }

@@ -1,4 +1,4 @@
-//! The lock, its passes and its refusal, as they lie in memory.
+//! The lock, its passes and its refusal, as they are in memory.
 use crate::knowledge::View;
 use crate::rule::{InTurn, Setup};
 use crate::state::Turns;
@@ -6,7 +6,7 @@ use atomic_table::{Seat, Table};
 use std::alloc::Global;
 use std::marker::Model;
 
-/// A lock over a state. In a clause it is seen as its name, its first ticket and how many passes it has.
+/// A lock over a state. It is modelled by its name, its first ticket and how many passes it has.
 #[derive(Drop)]
 pub struct TurnLock<T: Turns> {
     pub(crate) table: Table<Option<T>, View<T::Entry>, Setup, InTurn<T>, Global>,
@@ -23,7 +23,7 @@ impl<T: Turns> Model for TurnLock<T> {
     ghost invariant = { λ l. (l.table.shared.table_id.words ≡ 2) × (l.table.shared.table_id.slots ≡ 1) × (0 < l.table.shared.key.callers) };
 }
 
-/// The right to take turns at one lock. In a clause it is seen as the lock's name and what its holder knows.
+/// The right to take turns at one lock. It is modelled by the lock's name and what its holder knows.
 #[derive(Drop)]
 pub struct Pass<T: Turns> {
     pub(crate) number: u64,
@@ -45,6 +45,6 @@ impl<T: Turns> Model for Pass<T> {
 /// Why a turn was refused.
 #[derive(Drop)]
 pub enum Turned<O> {
-    /// The next ticket stood at 2^62 or more. The ticket, and what was asked, untouched.
+    /// The next ticket was 2^62 or more. It carries that ticket, and what was asked, untouched.
     Worn { ticket: u64, op: O },
 }

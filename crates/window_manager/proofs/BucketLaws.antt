@@ -21,7 +21,7 @@ has_bucket Kinds.Circle records is = refl
 has_bucket Kinds.Growing records is = refl
 has_bucket Kinds.Document records is = absurd (is refl)
 
--- a command that its kind has, and that asks for no more than there may be, is refused for its records alone
+-- a command that its kind has, and that asks for no more than there may be, is refused only for its records
 pub records_refused : (accepts : List ℕ → Bool) (w : WindowState) (c : Command) (large : Bool) → has_command w.kind c ≡ true → asks_too_many w c ≡ false → is_large (window_after w c) ≡ large → record_refusal (first_refused accepts (brought c)) large ≡ refusal_of accepts w c
 records_refused accepts w c large has few is = sym (λ i. if not (has i) then Some NotHere else if few i then Some TooMany else record_refusal (first_refused accepts (brought c)) (is i))
 
@@ -60,7 +60,7 @@ circle_is places leaves leaf false is some fits =
     let n : length (leaves ++ leaf ∷ []) - places ≡ 0 = omega (arith, one_longer leaves leaf, room) in
     ap (λ (k : ℕ). drop k (leaves ++ leaf ∷ [])) n
 
--- a new leaf comes behind those that stay
+-- a new leaf comes after those that stay
 pub with_leaf-is : (kind : Kind) (places : ℕ) (leaves : List Leaf) (leaf : Leaf) → 1 ≤ places → (kind ≡ Kinds.Circle → length leaves ≤ places) → with_leaf kind places leaves leaf ≡ drop (leaving kind places (length leaves)) leaves ++ leaf ∷ []
 with_leaf-is Kinds.Buckets places leaves leaf some fits = refl
 with_leaf-is Kinds.Growing places leaves leaf some fits = refl
@@ -201,14 +201,14 @@ late_some : (old place : ℕ) (more : List (List ℕ)) (late : List ℕ) → mor
 late_some old place [] late some = absurd (some refl)
 late_some old place (r ∷ rs) late some = refl
 
--- some came to a leaf of so many
+-- some records came to a leaf
 abbrev pub late_slid : Slid → ℕ → ℕ → Slid
 late_slid s count place = record { accepted = s.accepted; stood = s.stood; fresh = s.fresh; late = if nat_lt place (count - s.fresh) then with_place place s.late else s.late }
 
 pub marked : (w : WindowState) (s : Slid) (place : ℕ) (more : List (List ℕ)) → more ≢ [] → late_slid s (length w.leaves) place ≡ slid_after w (Late place more) s
 marked w s place more some = λ i. record { accepted = s.accepted; stood = s.stood; fresh = s.fresh; late = late_some (length w.leaves - s.fresh) place more s.late some i }
 
--- so many records can be held in one list
+-- the records of a leaf with more fit in one list
 pub few_records : (leaves : List Leaf) (place : ℕ) (leaf : Leaf) (more : List (List ℕ)) → place < length leaves → leaf ≡ get_or leaves place leaf → text_size (with_late place more leaves) ≤ 268435456 → length leaf + length more < 4294967296
 few_records leaves place leaf more lt is small = omega (arith, small, size_late place more leaves lt, size_part leaves place leaf lt is, count_size leaf, count_size more)
 

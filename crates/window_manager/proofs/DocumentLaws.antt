@@ -40,7 +40,7 @@ kept_at_end olds news change is =
     let n = ap (λ (l : List Leaf). length l) is.behind in
     omega (arith, n, length-drop (change.first + change.fresh) news, length-drop (change.first + change.gone) olds, is.within, is.fits)
 
--- what stands after an `Ok` follows from what stands after it
+-- what holds after an `Ok` follows from what holds after it
 pub on_ok : {T E P Q : Type 0} (r : Result T E) → (P → Q) → OnOk r P → OnOk r Q
 on_ok (Ok x) f p = f p
 on_ok (Err e) f p = p
@@ -68,7 +68,7 @@ early_none true true r l e = absurd (not_none TooMany (sym e))
 early_none true false (Some i) l e = absurd (not_none (BadRecord i) (sym e))
 early_none true false None l e = (refl, refl, refl)
 
--- what is refused early is refused, and what is not is refused for its text alone
+-- what is refused early is refused, and what is not is refused only for its text
 module _ (accepts : List ℕ → Bool) (w : WindowState) (c : Command) where
   pub refused_early : (fault : WindowFault) → early_refusal accepts w c ≡ Some fault → refusal_of accepts w c ≡ Some fault
   refused_early fault e = early_some (has_command w.kind c) (asks_too_many w c) (first_refused accepts (brought c)) (is_large (window_after w c)) fault e

@@ -1,4 +1,4 @@
--- A window whose commands name no file has one file at most, the one of the empty name.
+-- A window whose commands name no file has at most one file, that of the empty name.
 use Rattle.std.proofs.Common.{◌≡◌, ℕ, ◌+◌, Bool, true, false, List, [], ◌∷◌, length, refl, sym, ap, ◌∙◌, arith, append-nil}
 use Rattle.std.specs.Prelude.{if◌then◌else◌, All, Option, nat_le, nat_lt, ◌==◌, ◌&&◌, ◌||◌, drop}
 use Rattle.std.specs.declared.option.Option.TheVariants.{Some}

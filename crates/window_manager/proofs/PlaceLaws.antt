@@ -1,4 +1,4 @@
--- Rising places, gone over one by one.
+-- Rising places, visited one by one.
 use Rattle.std.proofs.Common.{◌≡◌, ℕ, zero, suc, subst, ◌+◌, ◌-◌, ◌<◌, ◌≤◌, Bool, true, false, List, [], ◌∷◌, ◌++◌, length, take, get_or, refl, sym, ap, ◌∙◌, arith, append-nil}
 use Rattle.std.specs.Prelude.{cond, All, nat_le, nat_lt, map}
 use Rattle.std.specs.List.{filter}
@@ -39,7 +39,7 @@ module _ (ps : List ℕ) (i p : ℕ) (lt : i < length ps) (is : p ≡ get_or ps 
   pub rises : IsStrictlyIncreasing ps → i + 1 < length ps → p < get_or ps (i + 1) 0
   rises rising next = let r : get_or ps i 0 < get_or ps (i + 1) 0 = rising i next in omega (arith, r, is)
 
--- what lies below one place lies below a greater one, with more that does
+-- what is below a place is below a greater one, with more that is
 pub all_on : (by p q : ℕ) (l : List ℕ) → p < q → All (λ x. x + by < p) l → All (λ x. x + by < q) l
 all_on by p q l lt all k d h = let a = all k d h in omega (arith, a, lt)
 

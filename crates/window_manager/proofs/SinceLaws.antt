@@ -20,7 +20,7 @@ use Rattle.window_manager.specs.Views.{WindowView, shift_by, shift_of}
 use Rattle.window_manager.specs.Since.{IsSince, fresh_leaves}
 use Rattle.window_manager.proofs.SlideLaws.{Follows, Lacks, put_length, put_other, put_same}
 
--- what a kind of buckets adds: a circle lets one go only where it is full, and one that grows lets none go
+-- what a kind of buckets adds: a circle drops a bucket only if it is full, and a growing window drops none
 abbrev pub KindAdds : Kind → ℕ → ℕ → ℕ → ℕ → Slid → Type 0
 KindAdds Kinds.Buckets places first old count s = Unit {0}
 KindAdds Kinds.Circle places first old count s = (count ≤ places) × (count - s.fresh < old → count ≡ places)

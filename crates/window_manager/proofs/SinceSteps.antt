@@ -47,7 +47,7 @@ IsOfLeaves kind = Unit {0}
 not_document : (kind : Kind) → kind ≡ Kinds.Document → IsOfLeaves kind → ⊥
 not_document kind e is = subst IsOfLeaves e is
 
--- how many buckets go where one comes
+-- how many buckets leave when one comes
 abbrev going : Kind → ℕ → List Leaf → Leaf → ℕ
 going kind places leaves leaf = length leaves + 1 - length (with_leaf kind places leaves leaf)
 
@@ -66,7 +66,7 @@ with_leaf_drops Kinds.Circle places leaves leaf =
     let by : length all - places ≡ length leaves + 1 - length (drop (length all - places) all) = omega (arith, one_more leaves leaf, length-drop (length all - places) all) in
     ap (λ (n : ℕ). drop n all) by
 
--- a circle stays within its places, and lets one go only where it is full
+-- a circle stays within its places, and drops a bucket only if it is full
 keeps_push : (kind : Kind) (places first old : ℕ) (leaves : List Leaf) (leaf : Leaf) (s : Slid) → s.fresh ≤ length leaves → length leaves ≤ s.accepted → KindAdds kind places first old (length leaves) s
     → KindAdds kind places first old (length (with_leaf kind places leaves leaf)) (dropped (going kind places leaves leaf) (length (with_leaf kind places leaves leaf)) (pushed s))
 keeps_push Kinds.Buckets places first old leaves leaf s le counted k = tt
@@ -124,7 +124,7 @@ less : (n m : ℕ) → nat_lt n m ≡ true → n < m
 less n m is = grind (arith, nat_tests)
 
 module _ (first : ℕ) (olds : List Leaf) (w : WindowState) (s : Slid) (f : Follows [] first olds w.leaves s) where
-  -- whether the bucket stood at the last run
+  -- whether the bucket was there at the last run
   late_of : (b : Bool) (place : ℕ) (more : List (List ℕ)) → nat_lt place (length w.leaves - s.fresh) ≡ b
       → Follows [] first olds (with_late place more w.leaves) (record { accepted = s.accepted; stood = s.stood; fresh = s.fresh; late = if b then with_place place s.late else s.late })
   late_of true place more is =
@@ -167,7 +167,7 @@ module _ (first : ℕ) (olds : List Leaf) (w : WindowState) (s : Slid) (f : Foll
   buckets_on other k (Load records) here few = not_true (sym (other_has w.kind (Load records) other tt) ∙ here)
   buckets_on other k Run here few = not_true (sym (other_has w.kind Run other tt) ∙ here)
 
--- a command lets as many stand as stood, and changes no kind
+-- a command keeps the number of the last run's leaves, and the kind
 stood_stays : (w : WindowState) (c : Command) (s : Slid) → (slid_after w c s).stood ≡ s.stood
 stood_stays w (Bucket records) s = refl
 stood_stays w (Drop n) s = refl
@@ -290,7 +290,7 @@ since_new Kinds.Growing places = follows_since 0 [] (no_leaves Kinds.Growing pla
 leads_anew : (w : WindowView) → LeadsOn w → LeadsOn (view_anew w)
 leads_anew w leads = (first_after (shift_of w) leads.0, w.window.leaves, since_anew leads.0 leads.1 w leads.2)
 
--- a window keeps its kind, and leads on, whatever a command answers
+-- a window keeps its kind, and leads on, whatever a command returns
 abbrev pub StaysLed : WindowView → WindowView → Type 0
 StaysLed old new = (new.window.kind ≡ old.window.kind) × LeadsOn new
 

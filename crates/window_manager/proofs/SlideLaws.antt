@@ -39,7 +39,7 @@ module _ {X : Type 0} (none : X) where
       let other : i ≢ p = λ e. grind (arith, nat_tests) in
       same (All-cons (λ q. q ≢ i) p ps (λ e. other (sym e)) out) ∙ sym (get_or-set_other old p i (get_or now p none) none other)
 
-  -- a list that differs from another at these places alone is the other one with its items put there
+  -- a list that differs from another only at these places is the other one with its items put there
   pub put_same : (ps : List ℕ) (now old : List X) → length now ≡ length old → ((i : ℕ) → i < length now → Lacks i ps → get_or now i none ≡ get_or old i none) → now ≡ put_at ps (map (λ p. get_or now p none) ps) old
   put_same [] now old count same = ext_get_or none now old count (λ i lt. same i lt (λ k d h. absurd (omega (arith, h))))
   put_same (p ∷ ps) now old count same =

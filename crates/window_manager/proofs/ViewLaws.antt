@@ -95,7 +95,7 @@ module _ (accepts : List ℕ → Bool) (c : Command) where
   done_document old new (Err WindowLarge) is a = (a.0, ap (λ (v : DocumentView). view_of (OfDocument v)) a.1)
   done_document old new (Err Mem) is a = (a.0, ap (λ (v : DocumentView). view_of (OfDocument v)) a.1)
 
-  -- the window that holds these is seen as they are
+  -- the window that holds these is modelled as they are
   pub seen_as : (before after : Content) (old : WindowView) (result given : Result (Unit {0}) WindowFault) (next : Content) → view_of before ≡ old → next ≡ after → result ≡ given → Done (refusal_of accepts (view_of before).window c) (view_of before) (view_of after) c given → Done (refusal_of accepts old.window c) old (view_of next) c result
   seen_as before after old result given next was is same done =
       subst (λ (v : WindowView). Done (refusal_of accepts v.window c) v (view_of next) c result) was

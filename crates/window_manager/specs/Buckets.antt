@@ -1,4 +1,4 @@
--- A window of buckets, and what its calls promise.
+-- The model of a window of buckets, and what its calls promise.
 use Rattle.std.specs.Prelude.{◌≡◌, ◌≢◌, ℕ, ◌≤◌, Bool, true, false, ◌&&◌, nat_le, if◌then◌else◌, List, length, Result, Ok, Err}
 use Rattle.std.specs.declared.option.Option.TheVariants.{Some, None}
 use Rattle.definitions.specs.Limits.{most_buckets, most_places, most_text}
@@ -29,7 +29,7 @@ buckets_after v c = record { window = window_after v.window c; slid = slid_after
 abbrev pub buckets_anew : BucketView → BucketView
 buckets_anew v = record { window = v.window; slid = slid_anew (length v.window.leaves) v.slid }
 
--- How many leaves go where a new one comes: the oldest of a circle that is full.
+-- How many leaves go when a new one comes: the oldest of a full circle.
 abbrev pub leaving : Kind → ℕ → ℕ → ℕ
 leaving kind places count = if is_circle kind && nat_le places count then 1 else 0
 
@@ -42,7 +42,7 @@ pub record IsOfBuckets (w : WindowState) : Type 0 where
   pub count : length w.leaves ≤ most_buckets
   pub circle : w.kind ≡ Kinds.Circle → length w.leaves ≤ w.places
 
--- What is kept beside the buckets: the size of their text, and how they changed.
+-- What a window keeps with its buckets: the size of their text, and how they changed.
 pub record AreKept (w : WindowState) (size : ℕ) (shift : Shift) : Type 0 where
   pub window : IsOfBuckets w
   pub sized : size ≡ text_size w.leaves
@@ -54,7 +54,7 @@ pub record IsAllowed (w : WindowState) (c : Command) : Type 0 where
   pub few : asks_too_many w c ≡ false
   pub small : is_large (window_after w c) ≡ false
 
--- A command was carried out, or refused with the window as it was: want of memory comes only where nothing refuses it.
+-- A command was carried out, or refused with the window unchanged; out of memory comes only if nothing refuses it.
 abbrev pub Applied : (List ℕ → Bool) → BucketView → BucketView → Command → Result (Unit {0}) WindowFault → Type 0
 Applied accepts old new c (Ok done) = (refusal_of accepts old.window c ≡ None) × (new ≡ buckets_after old c)
 Applied accepts old new c (Err Mem) = (refusal_of accepts old.window c ≡ None) × (new ≡ old)

@@ -1,5 +1,4 @@
--- The older rule of windows, without names of files: a document is one list of records. Commands that name a file are
--- not of it.
+-- The rule of windows without names of files: a document is one list of records. It has no commands that name a file.
 use Rattle.std.specs.Prelude.{◌≡◌, ℕ, ◌+◌, Bool, true, false, not, ◌&&◌, nat_le, nat_lt, if◌then◌else◌, List, [], ◌∷◌, length, drop, All, Result, Ok, Err, Option}
 use Rattle.std.specs.declared.option.Option.TheVariants.{Some, None}
 use Rattle.definitions.specs.Limits.{most_buckets, most_text}
@@ -60,7 +59,7 @@ older_refusal accepts w c =
     else if older_asks_too_many w c then Some TooMany
     else record_refusal (first_refused accepts (brought c)) (nat_lt most_text (length (text_of (joined (older_leaves w c)))))
 
--- How it goes on behind a command, where it is not refused.
+-- How a script goes on after a command that is not refused.
 abbrev pub unless_refused : Option WindowFault → Result (List Leaf) WindowFault → Result (List Leaf) WindowFault
 unless_refused None more = more
 unless_refused (Some fault) more = Err fault
@@ -70,7 +69,7 @@ abbrev pub leaves_after : (List ℕ → Bool) → WindowState → List Command �
 leaves_after accepts w [] = Ok w.leaves
 leaves_after accepts w (c ∷ cs) = unless_refused (refusal_of accepts w c) (leaves_after accepts (window_after w c) cs)
 
--- The same by the older rule.
+-- The same by the rule without files.
 abbrev pub older_leaves_after : (List ℕ → Bool) → OlderState → List Command → Result (List Leaf) WindowFault
 older_leaves_after accepts w [] = Ok w.leaves
 older_leaves_after accepts w (c ∷ cs) = unless_refused (older_refusal accepts w c) (older_leaves_after accepts (older_after w c) cs)

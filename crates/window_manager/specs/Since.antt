@@ -1,4 +1,4 @@
--- How a window leads on from the leaves of an earlier run: what the engine rests on.
+-- How a window leads on from the leaves of an earlier run, which the engine relies on.
 use Rattle.std.specs.Prelude.{◌≡◌, ◌≢◌, ℕ, ◌+◌, ◌≤◌, Bool, List, [], length, Ok}
 use Rattle.std.specs.List.{sum_by}
 use Rattle.record_text.specs.Shifts.{brought, first_after, left, shifted, FitsShift}
@@ -13,8 +13,8 @@ use Rattle.window_manager.specs.Views.{Done, WindowView, no_leaves, shift_of, vi
 abbrev pub fresh_leaves : WindowView → List Leaf
 fresh_leaves w = brought [] (shift_of w) w.window.leaves
 
--- The window's shift leads to its leaves from these, of which the first has the number `first`: at the last run the window
--- held them. Beside it stands what the window counts.
+-- The window's shift leads to its leaves from these, of which the first has the number `first`: at the last run the
+-- window held them. The other fields are about what the window counts.
 pub record IsSince (first : ℕ) (leaves : List Leaf) (w : WindowView) : Type 0 where
   pub leads : w.window.leaves ≡ shifted (shift_of w) (fresh_leaves w) leaves
   pub fits : FitsShift w.window.kind w.window.places first (length leaves) (length (fresh_leaves w)) (shift_of w)
@@ -37,7 +37,7 @@ SinceAnew = (first : ℕ) (leaves : List Leaf) (w : WindowView) → IsSince firs
 abbrev pub SinceOn : Type 0
 SinceOn = (accepts : List ℕ → Bool) (first : ℕ) (leaves : List Leaf) (old new : WindowView) (c : Command) → IsSince first leaves old → Done (refusal_of accepts old.window c) old new c (Ok tt) → IsSince first leaves new
 
--- Whatever leaves weigh: what is there after a shift weighs, with what the shift takes away, as much as what was there
--- before, with what it brings. So each text is there as often as these tell.
+-- For any weight of leaves: what is there after a shift, together with what it takes away, weighs as much as what was
+-- there before, together with what it brings. So each text is there as often as these say.
 abbrev pub ShiftBalances : Type 0
 ShiftBalances = (weight : Leaf → ℕ) (kind : Kind) (places first : ℕ) (news olds : List Leaf) (shift : Shift) → FitsShift kind places first (length olds) (length news) shift → sum_by weight (shifted shift news olds) + sum_by weight (left [] shift olds) ≡ sum_by weight olds + sum_by weight news

@@ -8,8 +8,8 @@ use Rattle.record_text.specs.declared.shift.Shift.{Shift}
 use Rattle.record_text.specs.declared.shift.Shift.TheVariants.{Slide, Splice}
 use Rattle.window_manager.specs.Windows.{WindowState, window_after}
 
--- What is known of the buckets of a window: how many it accepted, how many stood at the last run, how many of those that
--- stand came since then, and the places of the others that gained records since then.
+-- What is known of the buckets of a window: how many it accepted, how many there were at the last run, how many of the
+-- present ones came since then, and the places of the others that gained records since then.
 pub record Slid : Type 0 where
   pub accepted : ℕ
   pub stood : ℕ
@@ -20,7 +20,7 @@ pub record Slid : Type 0 where
 abbrev pub not_slid : Slid
 not_slid = record { accepted = 0; stood = 0; fresh = 0; late = [] }
 
--- Places, once so many leaves left.
+-- Places once a number of leaves have left.
 abbrev pub lowered : ℕ → List ℕ → List ℕ
 lowered by places = map (λ p. p - by) (filter (λ p. nat_le by p) places)
 
@@ -28,7 +28,8 @@ lowered by places = map (λ p. p - by) (filter (λ p. nat_le by p) places)
 abbrev pub with_place : ℕ → List ℕ → List ℕ
 with_place place places = filter (λ p. nat_lt p place) places ++ place ∷ filter (λ p. nat_lt place p) places
 
--- The late places, once these records came to the leaf at a place: only the first `old` leaves stood at the last run.
+-- The late places once these records came to the leaf at a place: only the first `old` leaves were there at the last
+-- run.
 abbrev pub late_after : ℕ → ℕ → List (List ℕ) → List ℕ → List ℕ
 late_after old place [] late = late
 late_after old place (r ∷ rs) late = if nat_lt place old then with_place place late else late
@@ -42,21 +43,21 @@ slid_after w (Drop n) s = record s { fresh = min s.fresh (length w.leaves - n); 
 slid_after w (Late place more) s = record s { late = late_after (length w.leaves - s.fresh) place more s.late }
 slid_after w c s = s
 
--- After a run over so many leaves.
+-- After a run over a number of leaves.
 abbrev pub slid_anew : ℕ → Slid → Slid
 slid_anew count s = record { accepted = s.accepted; stood = count; fresh = 0; late = [] }
 
--- The shift of a window of so many buckets: the number of the first, how many that stood at the last run left, which of
--- the others gained records, and how many came.
+-- The shift of a window with a number of buckets: the number of the first, how many of those of the last run left,
+-- which of the others gained records, and how many came.
 abbrev pub slide_of : ℕ → Slid → Shift
 slide_of count s = Slide (s.accepted - count) (s.stood - (count - s.fresh)) s.late s.fresh
 
--- What a shift says of a window of so many buckets.
+-- What a shift says of a window with a number of buckets.
 abbrev pub slid_by : Shift → ℕ → Slid
 slid_by (Slide first gone places fresh) count = record { accepted = first + count; stood = gone + (count - fresh); fresh = fresh; late = places }
 slid_by (Splice first gone fresh) count = not_slid
 
--- A shift of a window of so many buckets: the late places are of leaves that stood at the last run.
+-- A shift of a window with a number of buckets: the late places are of leaves that were there at the last run.
 abbrev pub FitsCount : Shift → ℕ → Type 0
 FitsCount (Slide first gone places fresh) count = (fresh ≤ count) × (gone + (count - fresh) ≤ most_buckets) × All (λ p. p < count - fresh) places
 FitsCount (Splice first gone fresh) count = ⊥

@@ -16,12 +16,12 @@ use Rattle.window_manager.specs.Windows.{Leaf, WindowState, empty_window, window
 use Rattle.window_manager.specs.declared.fault.WindowFault.{WindowFault}
 use Rattle.window_manager.specs.declared.fault.WindowFault.TheVariants.{NotHere, TooMany, WindowLarge, Mem}
 
--- What lies between the leaves kept before it and those kept behind it, of `stood` old leaves and `count` new ones.
+-- The splice between the leaves kept before it and those kept after it, of `stood` old leaves and `count` new ones.
 abbrev pub between : ℕ → ℕ → ℕ → ℕ → Shift
 between stood count first kept = Splice first (stood - kept - first) (count - kept - first)
 
--- The splice once a change came behind it: `stood` leaves were there at the last run, `old` before the change and `new`
--- after it.
+-- The composition of a splice with a change: `stood` leaves were there at the last run, `old` before the change and
+-- `new` after it.
 abbrev pub splice_after : ℕ → ℕ → ℕ → Shift → Change → Shift
 splice_after stood old new (Splice first gone fresh) change =
     if (change.gone == 0) && (change.fresh == 0) then Splice first gone fresh
@@ -41,7 +41,7 @@ abbrev pub FitsSplice : ℕ → Shift → ℕ → Type 0
 FitsSplice stood (Splice first gone fresh) count = (first + gone ≤ stood) × (first + fresh ≤ count) × (stood + fresh ≡ count + gone)
 FitsSplice stood (Slide first gone places fresh) count = ⊥
 
--- A document: what it holds, how many leaves stood at the last run, and the splice since then.
+-- A document: what it holds, how many leaves there were at the last run, and the splice since then.
 pub record DocumentView : Type 0 where
   pub window : WindowState
   pub stood : ℕ
@@ -55,12 +55,12 @@ no_document places = record { window = empty_window Kinds.Document places; stood
 abbrev pub document_anew : DocumentView → DocumentView
 document_anew v = record { window = v.window; stood = length v.window.leaves; splice = Splice 0 0 0 }
 
--- The leaves became others by this splice: those before it and those behind it are the ones that stood.
+-- The leaves became others by this splice: those before it and those after it are the old ones.
 abbrev pub Leads : List Leaf → List Leaf → Shift → Type 0
 Leads olds news (Splice first gone fresh) = IsSplice olds news (record { first = first; gone = gone; fresh = fresh })
 Leads olds news (Slide first gone places fresh) = ⊥
 
--- Where a splice leads to some leaves and a change on from them, the splice put together leads all the way.
+-- If a splice leads to some leaves and a change leads on from them, their composition leads all the way.
 abbrev pub SplicesJoin : Type 0
 SplicesJoin = (olds mids news : List Leaf) (splice : Shift) (change : Change) → Leads olds mids splice → IsSplice mids news change → Leads olds news (splice_after (length olds) (length mids) (length news) splice change)
 
@@ -73,13 +73,13 @@ pub record IsAfter (old new : DocumentView) (c : Command) : Type 0 where
   pub spliced : IsSplice old.window.leaves new.window.leaves change
   pub splice : new.splice ≡ splice_after old.stood (length old.window.leaves) (length new.window.leaves) old.splice change
 
--- A command was carried out, or refused with the document as it was: want of memory comes only where nothing refuses it.
+-- A command was carried out, or refused with the document unchanged; out of memory comes only if nothing refuses it.
 abbrev pub Edits : Option WindowFault → DocumentView → DocumentView → Command → Result (Unit {0}) WindowFault → Type 0
 Edits refusal old new c (Ok done) = (refusal ≡ None) × IsAfter old new c
 Edits refusal old new c (Err Mem) = (refusal ≡ None) × (new ≡ old)
 Edits refusal old new c (Err fault) = (refusal ≡ Some fault) × (new ≡ old)
 
--- The refusal for all but the text that there would be.
+-- The refusal, apart from the size of the text.
 abbrev pub early_refusal : (List ℕ → Bool) → WindowState → Command → Option WindowFault
 early_refusal accepts w c =
     if not (has_command w.kind c) then Some NotHere
@@ -92,7 +92,7 @@ fault_of EditFaults.TooMany = TooMany
 fault_of EditFaults.WindowLarge = WindowLarge
 fault_of EditFaults.Mem = Mem
 
--- The answer to a command that nothing refuses but the text that there would be.
+-- The result of a command that can be refused only for the size of the text.
 abbrev pub Carried : Bool → Result (Unit {0}) WindowFault → Type 0
 Carried large (Ok done) = large ≡ false
 Carried large (Err WindowLarge) = large ≡ true

@@ -52,18 +52,18 @@ pub record IsDone (old new : WindowView) (c : Command) : Type 0 where
   pub spliced : old.window.kind ≡ Kinds.Document → IsSplice old.window.leaves new.window.leaves change
   pub splice : new.splice ≡ splice_after old.slid.stood (length old.window.leaves) (length new.window.leaves) old.splice change
 
--- A command was carried out, or refused with the window as it was: want of memory comes only where nothing refuses it.
+-- A command was carried out, or refused with the window unchanged; out of memory comes only if nothing refuses it.
 abbrev pub Done : Option WindowFault → WindowView → WindowView → Command → Result (Unit {0}) WindowFault → Type 0
 Done refusal old new c (Ok done) = (refusal ≡ None) × IsDone old new c
 Done refusal old new c (Err Mem) = (refusal ≡ None) × (new ≡ old)
 Done refusal old new c (Err fault) = (refusal ≡ Some fault) × (new ≡ old)
 
--- What a window is seen as, by what it is made of.
+-- The model of a window, by its content.
 abbrev pub view_of : Content → WindowView
 view_of (OfBuckets b) = record { window = b.window; slid = b.slid; splice = no_splice }
 view_of (OfDocument d) = record { window = d.window; slid = record { accepted = 0; stood = d.stood; fresh = 0; late = [] }; splice = d.splice }
 
--- What it is made of fits its kind.
+-- The content fits the kind.
 abbrev pub FitsKind : Content → Type 0
 FitsKind (OfBuckets b) = b.window.kind ≢ Kinds.Document
 FitsKind (OfDocument d) = d.window.kind ≡ Kinds.Document

@@ -34,11 +34,11 @@ empty_window kind places = record { kind = kind; places = places; leaves = []; f
 abbrev pub present : WindowState → List (List ℕ)
 present w = joined w.leaves
 
--- The last `n` of a list, or all where there are fewer.
+-- The last `n` of a list, or all if there are fewer.
 abbrev pub last_of : {A : Type 0} → ℕ → List A → List A
 last_of n xs = drop (length xs - n) xs
 
--- The leaves with one more behind them: a circle keeps as many as it has places.
+-- The leaves with one more at the end: a circle keeps as many of the last ones as it has places.
 abbrev pub with_leaf : Kind → ℕ → List Leaf → Leaf → List Leaf
 with_leaf Kinds.Circle places leaves leaf = last_of places (leaves ++ leaf ∷ [])
 with_leaf kind places leaves leaf = leaves ++ leaf ∷ []
@@ -86,7 +86,7 @@ has_command Kinds.Document (Edit at del ins) = true
 has_command Kinds.Document (Load records) = true
 has_command kind command = false
 
--- Whether a kind lets the oldest leaf go for a new one.
+-- Whether a kind drops its oldest leaf for a new one.
 abbrev pub is_circle : Kind → Bool
 is_circle Kinds.Circle = true
 is_circle kind = false
@@ -112,7 +112,7 @@ brought (Edit at del ins) = ins
 brought (Load records) = records
 brought command = []
 
--- The index of the first record that is not accepted, where the first of these has the index `at`.
+-- The index of the first record that is not accepted, if the first of these has the index `at`.
 abbrev pub refused_from : (List ℕ → Bool) → ℕ → List (List ℕ) → Option ℕ
 refused_from accepts at [] = None
 refused_from accepts at (r ∷ rs) = if accepts r then refused_from accepts (at + 1) rs else Some at
@@ -121,11 +121,11 @@ refused_from accepts at (r ∷ rs) = if accepts r then refused_from accepts (at 
 abbrev pub first_refused : (List ℕ → Bool) → List (List ℕ) → Option ℕ
 first_refused accepts records = refused_from accepts 0 records
 
--- Whether a window has more text than it may have.
+-- Whether a window has more than 268,435,456 bytes of text.
 abbrev pub is_large : WindowState → Bool
 is_large w = nat_lt most_text (length (text_of (present w)))
 
--- The refusal of a record, or else of the text that there would be.
+-- The refusal of a record, or else of the size of the text.
 abbrev pub record_refusal : Option ℕ → Bool → Option WindowFault
 record_refusal (Some index) large = Some (BadRecord index)
 record_refusal None large = if large then Some WindowLarge else None

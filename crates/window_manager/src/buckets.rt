@@ -18,7 +18,7 @@ use std::alloc::{AllocError, Global};
 use std::collections::VecDeque;
 use std::marker::Model;
 
-/// Buckets of records, the oldest first, seen with how they changed since the last run.
+/// Buckets of records, the oldest first, modelled with how they changed since the last run.
 #[derive(Drop)]
 pub struct BucketWindow {
     kind: Kind,
@@ -62,7 +62,7 @@ impl BucketWindow {
         }
     }
 
-    /// How many buckets stand.
+    /// How many buckets there are.
     pub fn leaf_count(&self) -> usize
         ensures count { result ≡ length self.now.window.leaves }
         ensures window { IsOfBuckets self.now.window }
@@ -85,7 +85,7 @@ impl BucketWindow {
         &self.shift
     }
 
-    /// A run was made over the buckets that stand.
+    /// Notes that a run was made over the present buckets.
     pub fn run_done(&mut self, alloc: Global)
         ensures { self.new ≡ buckets_anew self.old }
     {
@@ -111,7 +111,7 @@ impl BucketWindow {
         self.kind
     }
 
-    /// How many bytes of text stay where a new bucket comes.
+    /// How many bytes of text stay if a new bucket comes.
     fn kept(&self) -> u64
         ensures kept { result ≡ text_size (drop (leaving self.now.window.kind self.now.window.places (length self.now.window.leaves)) self.now.window.leaves) }
         ensures small { result ≤ most_text }
@@ -121,7 +121,7 @@ impl BucketWindow {
         self.size - text_of_oldest(&self.leaves, went)
     }
 
-    /// Whether as many buckets stand as may.
+    /// Whether there are as many buckets as there may be.
     fn is_full(&self) -> bool
         ensures { result ≡ (not (is_circle self.now.window.kind) && nat_le most_buckets (length self.now.window.leaves)) }
     {
@@ -139,7 +139,7 @@ impl BucketWindow {
         records_refusal(job, records, kept)
     }
 
-    /// A new bucket comes.
+    /// Adds a new bucket.
     fn push(&mut self, alloc: Global, records: Records) -> Result<(), AllocError>
         requires many { asks_too_many self.old.window (Bucket records) ≡ false }
         requires large { is_large (window_after self.old.window (Bucket records)) ≡ false }
@@ -158,7 +158,7 @@ impl BucketWindow {
         Ok(())
     }
 
-    /// Why the oldest buckets may not go, so many.
+    /// Why the `n` oldest buckets cannot be dropped.
     fn drop_refusal(&self, n: u32) -> Option<WindowFault>
         ensures { (accepts : List ℕ → Bool) → result ≡ refusal_of accepts self.now.window (Drop n) }
     {
@@ -171,7 +171,7 @@ impl BucketWindow {
         None
     }
 
-    /// The oldest buckets go, so many.
+    /// Drops the `n` oldest buckets.
     fn forget(&mut self, alloc: Global, n: u32) -> Result<(), AllocError>
         requires within { n ≤ length self.old.window.leaves }
         requires accepted { self.old.slid.accepted < 2 ^ 63 }
@@ -185,7 +185,7 @@ impl BucketWindow {
         Ok(())
     }
 
-    /// Why records may not be added to the bucket at a place.
+    /// Why records cannot be added to the bucket at a place.
     fn late_refusal<J: Job>(&self, place: u32, more: &Records, job: &J) -> Option<WindowFault>
         ensures { result ≡ refusal_of (J.accepts (J.setting job.now)) self.now.window (Late place more.now) }
     {
@@ -198,7 +198,7 @@ impl BucketWindow {
         records_refusal(job, more, self.size)
     }
 
-    /// Records are added at the end of the bucket at a place. The bucket is copied.
+    /// Adds records at the end of the bucket at a place. The bucket is copied.
     fn add_late(&mut self, alloc: Global, place: u32, more: &Records) -> Result<(), AllocError>
         requires within { place < length self.old.window.leaves }
         requires large { is_large (window_after self.old.window (Late place more.now)) ≡ false }
@@ -217,7 +217,7 @@ impl BucketWindow {
         Ok(())
     }
 
-    /// Why a command is refused, or none. It takes no memory.
+    /// Why a command is refused, if it is. It takes no memory.
     fn refusal<J: Job>(&self, c: &Command, job: &J) -> Option<WindowFault>
         ensures { result ≡ refusal_of (J.accepts (J.setting job.now)) self.now.window c.now }
     {
@@ -246,8 +246,8 @@ impl BucketWindow {
         }
     }
 
-    /// Carries out a command. A bucket costs its own records, late records cost their bucket, and a drop costs the
-    /// buckets that go. A refusal changes nothing.
+    /// Carries out a command, or returns why it is refused. A bucket costs its own records, late records cost their
+    /// bucket, and a drop costs the buckets that leave. On an error nothing changes.
     pub fn apply<J: Job>(&mut self, alloc: Global, c: Command, job: &J) -> Result<(), WindowFault>
         requires accepted { self.old.slid.accepted < 2 ^ 63 }
         ensures { Applied (J.accepts (J.setting job.now)) self.old self.new c result }

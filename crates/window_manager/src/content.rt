@@ -1,4 +1,4 @@
-//! A window is buckets or a document, which have little in common but what a caller asks of both.
+//! The content of a window: buckets, or a document.
 use crate::buckets::BucketWindow;
 use crate::document::DocumentWindow;
 

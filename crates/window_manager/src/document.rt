@@ -17,7 +17,7 @@ use record_text::{Bundle, Command, Name, Records, Shift};
 use std::alloc::{AllocError, Global};
 use std::marker::Model;
 
-/// A document in files, seen with how its chunks changed since the last run.
+/// A document in files, modelled with how its chunks changed since the last run.
 #[derive(Drop)]
 pub struct DocumentWindow {
     places: u32,
@@ -39,7 +39,7 @@ impl Model for DocumentWindow {
     ghost invariant = { λ d. FitsSplice d.stood d.shift (length (all_chunks d.files.0)) };
 }
 
-/// The index of the first record that is refused, as the fault that it is.
+/// The fault of the first record that is refused, with its index.
 fn record_fault<J: Job>(job: &J, records: &Records) -> Option<WindowFault>
     ensures { result ≡ record_refusal (first_refused (J.accepts (J.setting job.now)) records.now) false }
 {
@@ -101,7 +101,7 @@ impl DocumentWindow {
         &self.shift
     }
 
-    /// A run was made over the chunks that there are.
+    /// Notes that a run was made over the present chunks.
     pub fn run_done(&mut self)
         ensures { self.new ≡ document_anew self.old }
     {
@@ -122,7 +122,7 @@ impl DocumentWindow {
             && self.files.file_count() >= MOST_FILES
     }
 
-    /// Another file is the current one.
+    /// Chooses the current file.
     fn select(&mut self, alloc: Global, name: &Name) -> Result<(), AllocError>
         ensures ok { OnOk result (IsAfter self.old self.new (File name.now)) }
         ensures err { OnErr result (self.new ≡ self.old) }
@@ -130,7 +130,7 @@ impl DocumentWindow {
         self.files.select(alloc, name)
     }
 
-    /// A file goes.
+    /// Removes a file.
     fn remove(&mut self, name: &Name)
         ensures { IsAfter self.old self.new (Remove name.now) }
     {
@@ -140,7 +140,7 @@ impl DocumentWindow {
         splice_on(&mut self.shift, self.stood, old, new, change);
     }
 
-    /// From the record at a place of the current file on, `del` records become others.
+    /// Replaces `del` records of the current file from a place on.
     fn edit(&mut self, alloc: Global, at: u32, del: u32, ins: Records) -> Result<(), WindowFault>
         requires { asks_too_many self.old.window (Edit at del ins) ≡ false }
         ensures ok { OnOk result (IsAfter self.old self.new (Edit at del ins)) }
@@ -157,7 +157,7 @@ impl DocumentWindow {
         Ok(())
     }
 
-    /// The current file becomes these records.
+    /// Replaces all records of the current file.
     fn load(&mut self, alloc: Global, records: Records) -> Result<(), WindowFault>
         requires { asks_too_many self.old.window (Load records) ≡ false }
         ensures ok { OnOk result (IsAfter self.old self.new (Load records)) }
@@ -183,7 +183,7 @@ impl DocumentWindow {
         self.files.text_len()
     }
 
-    /// Why an edit is refused for all but the text that there would be.
+    /// Why an edit is refused, apart from the size of the text.
     fn edit_refusal<J: Job>(&self, at: u32, del: u32, ins: &Records, job: &J) -> Option<WindowFault>
         ensures { result ≡ early_refusal (J.accepts (J.setting job.now)) self.now.window (Edit at del ins.now) }
     {
@@ -193,7 +193,7 @@ impl DocumentWindow {
         record_fault(job, ins)
     }
 
-    /// Why a load is refused for all but the text that there would be.
+    /// Why a load is refused, apart from the size of the text.
     fn load_refusal<J: Job>(&self, records: &Records, job: &J) -> Option<WindowFault>
         ensures { result ≡ early_refusal (J.accepts (J.setting job.now)) self.now.window (Load records.now) }
     {
@@ -204,7 +204,7 @@ impl DocumentWindow {
         record_fault(job, records)
     }
 
-    /// Why a command is refused for all but the text that there would be. It takes no memory.
+    /// Why a command is refused, apart from the size of the text. It takes no memory.
     fn early_refusal<J: Job>(&self, c: &Command, job: &J) -> Option<WindowFault>
         ensures { result ≡ early_refusal (J.accepts (J.setting job.now)) self.now.window c.now }
     {
@@ -244,8 +244,8 @@ impl DocumentWindow {
         }
     }
 
-    /// Carries out a command. An edit costs the chunks that it touches, a load the text of the file. A refusal changes
-    /// nothing.
+    /// Carries out a command, or returns why it is refused. An edit costs the chunks that it touches, a load the text
+    /// of the file. On an error nothing changes.
     pub fn apply<J: Job>(&mut self, alloc: Global, c: Command, job: &J) -> Result<(), WindowFault>
         ensures { Edits (refusal_of (J.accepts (J.setting job.now)) self.old.window c) self.old self.new c result }
     {

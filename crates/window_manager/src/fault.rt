@@ -7,16 +7,16 @@ pub enum WindowFault {
     /// The window is of a kind that lacks the command.
     #[error("no such command in this kind of window")]
     NotHere,
-    /// More than there is, or than there may be.
+    /// The command asks for more than there is, or than there may be.
     #[error("more than there is, or than there may be")]
     TooMany,
-    /// The job does not accept a record of the command: the first such has this index, counted from 0.
+    /// The job does not accept a record of the command. The first such record has this index, counted from 0.
     #[error("record {index} of the command is not accepted")]
     BadRecord { index: u32 },
     /// The text of the window would have more than 268,435,456 bytes.
     #[error("more text than a window may have")]
     WindowLarge,
-    /// Want of memory.
+    /// Out of memory.
     #[error("out of memory")]
     Mem,
 }

@@ -1,4 +1,5 @@
-//! Which old buckets gained records since the last run, as rising places that fall when the oldest buckets go.
+//! Which old buckets gained records since the last run, as rising places, which are lowered when the oldest buckets
+//! leave.
 ghost use Rattle.std.specs.Prelude.{◌≡◌, ◌++◌, ◌<◌, All, nat_lt, IfOk, OnOk};
 ghost use Rattle.std.specs.List.{filter};
 ghost use Rattle.window_manager.specs.Slides.{lowered, with_place};
@@ -6,7 +7,7 @@ ghost use Rattle.window_manager.specs.Slides.{lowered, with_place};
 use record_text::Places;
 use std::alloc::{AllocError, Global};
 
-/// The places, once so many leaves left.
+/// The places once `by` leaves have left.
 pub fn lower(alloc: Global, places: &Places, by: usize) -> Result<Places, AllocError>
     ensures { IfOk result (λ left. left ≡ lowered by places.now) }
 {
@@ -35,7 +36,7 @@ fn places_below(alloc: Global, places: &Places, place: usize) -> Result<Places, 
     Ok(below)
 }
 
-/// The places with one more among them.
+/// The places with one more inserted.
 pub fn add_place(alloc: Global, places: &Places, place: usize) -> Result<Places, AllocError>
     ensures { IfOk result (λ more. more ≡ with_place place places.now) }
 {

@@ -1,4 +1,4 @@
-//! What each kind of buckets allows, and the steps over a deque of buckets, each with its text beside it.
+//! What each kind of buckets allows, and the steps over a deque of buckets.
 ghost use Rattle.std.specs.Prelude.{ℕ, List, ◌≡◌, ◌≤◌, ◌<◌, ◌+◌, length, drop};
 ghost use Rattle.definitions.specs.Limits.{most_text};
 ghost use Rattle.record_text.specs.declared.command.Command.TheVariants.{Drop, Late};
@@ -9,7 +9,7 @@ ghost use Rattle.window_manager.specs.Buckets.{leaving, text_size};
 use record_text::{Bundle, Kind};
 use std::collections::VecDeque;
 
-/// Whether a kind lets the oldest leaf go for a new one.
+/// Whether a kind drops its oldest leaf for a new one.
 pub fn is_circle(kind: Kind) -> bool
     ensures { result ≡ is_circle kind }
 {
@@ -19,7 +19,7 @@ pub fn is_circle(kind: Kind) -> bool
     }
 }
 
-/// Whether the oldest leaves of a kind may go by a command.
+/// Whether a kind has the command `drop`.
 pub fn takes_drop(kind: Kind) -> bool
     ensures { (n : ℕ) → has_command kind (Drop n) ≡ result }
 {
@@ -29,7 +29,7 @@ pub fn takes_drop(kind: Kind) -> bool
     }
 }
 
-/// Whether a kind takes late records.
+/// Whether a kind has the command `late`.
 pub fn takes_late(kind: Kind) -> bool
     ensures { (place : ℕ) (more : List (List ℕ)) → has_command kind (Late place more) ≡ result }
 {
@@ -39,7 +39,7 @@ pub fn takes_late(kind: Kind) -> bool
     }
 }
 
-/// How many leaves go where a new one comes behind `count`.
+/// How many leaves go when a new one comes after `count`.
 pub fn leaving(kind: Kind, places: u32, count: usize) -> usize
     requires { 1 ≤ places }
     ensures leaves { result ≡ leaving kind places count }
@@ -65,7 +65,7 @@ pub fn text_of_oldest(leaves: &VecDeque<Bundle>, n: usize) -> u64
     size
 }
 
-/// Lets the first leaves go.
+/// Drops the first leaves.
 pub fn forget_oldest(leaves: &mut VecDeque<Bundle>, n: usize)
     requires { n ≤ length leaves.old.items }
     ensures items { leaves.new.items ≡ drop n leaves.old.items }

@@ -1,6 +1,6 @@
-//! Windows: which records count for the next run, and how the leaves that hold them changed since the last one. Start at
-//! `specs/Windows.antt`, which says what a window holds, what each command makes of it and what it refuses;
-//! `specs/OlderRule.antt` is the rule without names of files.
+//! Windows: which records count for the next run, and how the leaves that hold them changed since the last one. Start
+//! at [`Window`] and `specs/Windows.antt`, which says what a window holds, what each command makes of it and what it
+//! refuses; `specs/OlderRule.antt` is the rule without names of files.
 #![tactic(auto)]
 
 mod buckets;

@@ -1,4 +1,4 @@
-//! The refusals that depend on the records of a command: one that the job does not accept, or too much text.
+//! The refusals that depend on the records of a command: a record that the job does not accept, or too much text.
 ghost use Rattle.std.specs.Prelude.{◌≡◌, ◌<◌, ◌≤◌, ◌+◌, length, nat_lt, IfSome, OnOk, IfOk, ◌++◌};
 ghost use Rattle.definitions.specs.Limits.{most_text};
 ghost use Rattle.definitions.specs.Records.{text_of};
@@ -25,7 +25,7 @@ pub fn first_refused_of<J: Job>(job: &J, records: &Records) -> Option<usize>
     None
 }
 
-/// Why these records are refused beside so much text.
+/// Why these records are refused, when there is other text of a given size.
 pub fn records_refusal<J: Job>(job: &J, records: &Records, kept: u64) -> Option<WindowFault>
     requires { kept ≤ most_text }
     ensures { result ≡ record_refusal (first_refused (J.accepts (J.setting job.now)) records.now) (nat_lt most_text (kept + length (text_of records.now))) }
@@ -41,7 +41,7 @@ pub fn records_refusal<J: Job>(job: &J, records: &Records, kept: u64) -> Option<
     None
 }
 
-/// The records with others behind them, in memory of their own.
+/// A copy of the records with others after them.
 pub fn joined_records(
     alloc: Global,
     records: &Records,

@@ -1,4 +1,4 @@
-//! Keeps the slide of a window of buckets as they come, go and gain records, in numbers and places alone.
+//! Keeps the slide of a window of buckets as they come, leave and gain records, by numbers and places alone.
 ghost use Rattle.std.specs.Prelude.{◌≡◌, ◌<◌, ◌≤◌, ◌+◌, ◌-◌, ◌^◌, min, nat_lt, if◌then◌else◌, OnOk, OnErr};
 ghost use Rattle.definitions.specs.Limits.{most_buckets};
 ghost use Rattle.window_manager.specs.Slides.{FitsCount, Slid, slid_by, lowered, with_place};
@@ -7,7 +7,7 @@ use crate::late_places::{add_place, lower};
 use record_text::Shift;
 use std::alloc::{AllocError, Global};
 
-/// Of a window of `count` buckets the first `went` leave, and then `came` ones come.
+/// The first `went` of `count` buckets leave, then `came` new ones come.
 pub fn slide_on(
     alloc: Global,
     shift: &mut Shift,
@@ -46,7 +46,7 @@ pub fn slide_on(
     }
 }
 
-/// Records came to the leaf at a place of a window of `count` buckets.
+/// Notes that the bucket at a place gained records, in a window of `count` buckets.
 pub fn mark_late(
     alloc: Global,
     shift: &mut Shift,

@@ -1,12 +1,12 @@
-//! Keeps the splice of a document as changes come, in numbers alone.
+//! Keeps the splice of a document as changes come, by numbers alone.
 ghost use Rattle.std.specs.Prelude.{◌≡◌, ◌≤◌, ◌+◌};
 ghost use Rattle.window_manager.specs.Splices.{FitsSplice, splice_after};
 
 use chunk_store::Change;
 use record_text::Shift;
 
-/// A change came: of `old` leaves it made `new` ones, and `stood` were there at the last run. The numbers are put
-/// together, so no leaf is looked at.
+/// Composes the splice with a change, which made `new` leaves of `old` ones; `stood` were there at the last run. It
+/// looks at numbers only.
 pub fn splice_on(shift: &mut Shift, stood: usize, old: usize, new: usize, change: Change)
     requires fits { FitsSplice stood shift.old old }
     requires old { change.first + change.gone ≤ old }

@@ -8,7 +8,7 @@ use record_text::{Command, Kind, Name, Records, Shift, is_name, is_record};
 use std::alloc::{AllocError, Global};
 use std::marker::PhantomData;
 
-// A job that refuses the record without bytes.
+// A job that refuses the empty record.
 #[derive(Drop)]
 struct NotEmpty<M: Meter> {
     meter: PhantomData<M>,
@@ -78,7 +78,7 @@ impl<M: Meter> Job for NotEmpty<M> {
     ghost join_laws = { λ s. record { keeps = λ a b g h. tt; assoc = λ a b c g h i. refl } };
 }
 
-/// A command in short, or the end of a run. Each byte is a record, and `_` the one without bytes.
+/// A command in short, or the end of a run. Each byte is a record, and `_` the empty one.
 #[derive(Clone, Copy)]
 enum Step<'a> {
     Bucket(&'a [u8]),
@@ -111,7 +111,7 @@ fn name_of(alloc: Global, bytes: &[u8]) -> Result<Name, AllocError> {
     Ok(Name::empty(alloc))
 }
 
-/// The command of a step, or none at the end of a run.
+/// The command of a step; `None` at the end of a run.
 fn command_of(alloc: Global, step: Step<'_>) -> Result<Option<Command>, AllocError> {
     let command = match step {
         Step::Bucket(bytes) => Command::Bucket(records_of(alloc, bytes)?),
@@ -137,7 +137,7 @@ fn command_of(alloc: Global, step: Step<'_>) -> Result<Option<Command>, AllocErr
     Ok(Some(command))
 }
 
-/// The text of each leaf with a bar behind it, and the shift.
+/// The text of each leaf with a bar after it, and the shift.
 fn shown(alloc: Global, window: &Window, out: &mut Vec<u8>) -> Result<(), AllocError> {
     'leaves: for i in 0..window.leaf_count() {
         out.extend_from_slice(window.leaf(i).records().text())?;
@@ -165,7 +165,7 @@ fn shown(alloc: Global, window: &Window, out: &mut Vec<u8>) -> Result<(), AllocE
     }
 }
 
-/// What a window refuses of these steps, and what it is behind them.
+/// What a window refuses of these steps, and what it holds after them.
 fn played(alloc: Global, kind: Kind, places: u32, steps: &[Step<'_>]) -> Result<Vec<u8>, AllocError>
     requires some { 1 ≤ places }
     requires few { places ≤ 4096 }

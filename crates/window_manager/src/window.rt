@@ -1,4 +1,4 @@
-//! The one entry for callers, over windows of every kind: a command goes in, leaves and their change come out.
+//! Windows of every kind: a command goes in, leaves and their change come out.
 ghost use Rattle.std.specs.Prelude.{◌≡◌, ◌≤◌, ◌<◌, ◌^◌, [], length, slice_index_or};
 ghost use Rattle.window_manager.specs.Windows.{refusal_of};
 ghost use Rattle.definitions.specs.Limits.{most_places};
@@ -14,8 +14,8 @@ use record_text::{Bundle, Command, Kind, Shift};
 use std::alloc::Global;
 use std::marker::Model;
 
-/// The records that count for the next run, as leaves: buckets in a row, in a circle or in a row that only grows, or the
-/// chunks of a document in files.
+/// The records that count for the next run, as leaves: buckets in a row, in a circle or in a row that only grows, or
+/// the chunks of a document in files. Each kind has some of the commands.
 #[derive(Drop)]
 pub struct Window {
     content: Content,
@@ -48,9 +48,14 @@ impl Window {
         Window { content }
     }
 
-    /// Carries out a command: what it costs is said at each kind. What the kind lacks is refused, then more than there is
-    /// or may be, then the first record that the job does not accept, then more text than a window may have. A refusal
-    /// changes nothing.
+    /// Carries out a command. A bucket costs its own records, late records cost their bucket, a drop the buckets that
+    /// leave, an edit the chunks that it touches, and a load the text of the file. On an error nothing changes.
+    ///
+    /// # Errors
+    ///
+    /// The first of these that applies: `NotHere` if the kind lacks the command, `TooMany` if it asks for more than
+    /// there is or may be, `BadRecord` if the job does not accept a record, `WindowLarge` if the text would have more
+    /// than 268,435,456 bytes. `Mem` out of memory, only if nothing else applies.
     pub fn apply<J: Job>(&mut self, alloc: Global, c: Command, job: &J) -> Result<(), WindowFault>
         requires accepted { self.old.slid.accepted < 2 ^ 63 }
         ensures { Done (refusal_of (J.accepts (J.setting job.now)) self.old.window c) self.old self.new c result }
@@ -93,7 +98,7 @@ impl Window {
         }
     }
 
-    /// A run was made over the leaves that there are.
+    /// Notes that a run was made over the present leaves.
     pub fn run_done(&mut self, alloc: Global)
         ensures { self.new ≡ view_anew self.old }
     {

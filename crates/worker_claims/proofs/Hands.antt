@@ -1,4 +1,4 @@
--- What a hand has with it, by what it is doing.
+-- What a hand holds, by what it is doing.
 use Rattle.std.proofs.Common.{◌≡◌, ℕ, Bool, false, List, [], refl}
 use Rattle.std.specs.Prelude.{Option}
 use Rattle.worker_claims.specs.declared.knowledge.Doing.{Doing}

@@ -1,4 +1,4 @@
--- The steps of a claim and of a giving back keep the rule.
+-- The steps of a claim and of a give keep the rule.
 use Rattle.std.proofs.Common.{◌≡◌, ◌≢◌, ℕ, zero, ◌+◌, ◌%◌, ◌^◌, ◌<◌, ◌≤◌, Bool, cond, eq-eqb, ne_eqb, List, [], ◌∷◌, ◌++◌, length, get_or, set, sym, refl, ap, ap₂, ◌∙◌, subst, inl, inr, ⊎_elim, le_refl, arith, length-set}
 use Rattle.std.specs.Prelude.{Option, Some, None}
 use mathlib.Core.Option.{some, none, some-injective}
@@ -21,7 +21,7 @@ use Rattle.atomic_table.proofs.Lists.{at_longer}
 pub one_same : (k n : ℕ) → k ≡ n → one_if k n ≡ 1
 one_same k n e = ap (λ (b : Bool). cond b 1 0) (eq-eqb k n e)
 
--- what stands in a list, and at most once
+-- what is in a list, and at most once
 pub times_one : {T : Type 0} (k : ℕ) (given : List (ℕ × T)) (i : ℕ) (t : T) → get_elem? given i ≡ some (k, t) → times k given ≤ 1 → times k given ≡ 1
 times_one k given i t at most = let a = one_of (λ (g : ℕ × _). one_if k g.0) given i (k, t) at in let b = one_same k k refl in omega arith
 
@@ -92,7 +92,7 @@ module _ {T : Type 0} (tasks : List T) (hands : ℕ) where
   pub rest_le : (v : View T) → rest_of v ≤ parts v
   rest_le v = comers_le v.parts v.doing
 
-  -- what a step of the seat id owes, where its view goes from v to w and the word to word
+  -- what a step of the seat id must show, where its view goes from v to w and the word to word
   pub record Owes (s : S) (r : K s) (id : ℕ) (v w : View T) (word : ℕ) (homes : List (maybe.Option (Option T))) : Type 0 where
     pub here : get_elem? s.views id ≡ some v
     pub lives : Live w.doing

@@ -14,7 +14,7 @@ HoldsNone Free = Unit {0}
 HoldsNone (Ended n) = Unit {0}
 HoldsNone _ = ⊥
 
--- It has had no task where it asked for one.
+-- It got no task when it asked for one.
 abbrev pub HasEnded : Doing → Type 0
 HasEnded (Ended n) = Unit {0}
 HasEnded _ = ⊥
@@ -23,20 +23,21 @@ module _ {T : Type 0} where
   abbrev pub IsHandOf : BoardView T → HandView T → Type 0
   IsHandOf b h = (h.board ≡ b.id) × (h.tasks ≡ b.tasks)
 
-  -- What a claim answers: no task where the number that it found is no task's, or where it has ended before; else the task of that number.
+  -- What a claim returns: no task if the number found is no task's, or if the hand has ended before; otherwise the task
+  -- of that number.
   abbrev pub IsClaim : List T → Doing → Doing → Option (ℕ × T) → Type 0
   IsClaim tasks old new None = (n : ℕ) × (new ≡ Ended n) × (length tasks ≤ n) × ((old ≡ Free) ⊎ (old ≡ Ended n))
   IsClaim tasks old new (Some c) = (old ≡ Free) × (new ≡ HasTask c.0) × (get_elem? tasks c.0 ≡ some c.1)
 
-  -- Each task may be worked.
+  -- Each task may be done.
   abbrev pub AllReady : (ℕ → T → Type 0) → List T → Type 0
   AllReady ready tasks = (k : ℕ) (x : T) → get_elem? tasks k ≡ some x → ready k x
 
-  -- The gate was passed for the task of this number, and the task was worked.
+  -- The gate was passed for the task of this number, and the task was done.
   abbrev pub gated : (ℕ → Type 0) → (ℕ → T → T → Type 0) → ℕ → T → T → Type 0
   gated passed works k x y = passed k × works k x y
 
-  -- Each that was given was worked from the task of its number.
+  -- Each given task is the done task of its number.
   abbrev pub AllWorked : (ℕ → T → T → Type 0) → List T → List (ℕ × T) → Type 0
   AllWorked works tasks given = (i k : ℕ) (t : T) → get_elem? given i ≡ some (k, t) → (x : T) × (get_elem? tasks k ≡ some x) × works k x t
 
@@ -52,13 +53,13 @@ module _ {T : Type 0} where
   abbrev pub times_by : ℕ → List (HandView T) → ℕ
   times_by k hands = total (λ (h : HandView T). times k h.given) hands
 
-  -- In each place the task that a hand gave with its number, and each number was given once.
+  -- At each place is the task that a hand gave with its number, and each number was given once.
   pub record IsClosed (tasks : List T) (hands : List (HandView T)) (left : List T) : Type 0 where
     pub count : length left ≡ length tasks
     pub given : (k : ℕ) (t : T) → get_elem? left k ≡ some t → Gave hands k t
     pub once : (k : ℕ) → k < length tasks → times_by k hands ≡ 1
 
-  -- In each place the old task and the new one stand in the worker's relation.
+  -- At each place the old task and the new one are in the worker's relation.
   pub record IsWorked (works : ℕ → T → T → Type 0) (tasks done : List T) : Type 0 where
     pub count : length done ≡ length tasks
     pub each : (k : ℕ) (x y : T) → get_elem? tasks k ≡ some x → get_elem? done k ≡ some y → works k x y

@@ -14,7 +14,7 @@ abbrev pub Live : Doing → Type 0
 Live Spent = ⊥
 Live _ = Unit {0}
 
--- 1 where the numbers are the same, else 0.
+-- 1 if the numbers are equal, else 0.
 abbrev pub one_if : ℕ → ℕ → ℕ
 one_if k n = cond (eqb k n) 1 0
 
@@ -30,7 +30,7 @@ comers n (Ended k) = 0
 comers n _ = n
 
 module _ {T : Type 0} where
-  -- The slots that a hand has with it, and its note that it has ended, fit what it is doing.
+  -- The slots that a hand holds, and its note that it has ended, fit what it is doing.
   abbrev pub Carries : List T → Doing → Bool → List (ℕ × Option T) → Type 0
   Carries tasks Spent ended slots = ⊥
   Carries tasks Free ended slots = (ended ≡ false) × (slots ≡ [])
@@ -41,7 +41,7 @@ module _ {T : Type 0} where
   abbrev pub made : ℕ → List T → Doing → List (ℕ × T) → View T
   made parts tasks doing given = record { parts = parts; tasks = tasks; doing = doing; given = given }
 
-  -- The first view, which stands for all hands.
+  -- The first view, which represents all hands.
   abbrev pub newcomer : List T → ℕ → View T
   newcomer tasks hands = made hands tasks Free []
 
@@ -49,14 +49,14 @@ module _ {T : Type 0} where
   abbrev pub spent : View T
   spent = made 0 [] Spent []
 
-  -- What a view and a new one are when a hand is made.
+  -- A view and a new one, when a hand is made.
   abbrev pub without_one : View T → View T
   without_one v = made (v.parts - 1) v.tasks v.doing v.given
 
   abbrev pub the_one : View T → View T
   the_one v = made 1 v.tasks Free []
 
-  -- A view that takes in another.
+  -- A view that another was joined into.
   abbrev pub with : View T → View T → View T
   with v w = made (v.parts + w.parts) v.tasks v.doing (v.given ++ w.given)
 
@@ -68,7 +68,7 @@ module _ {T : Type 0} where
   abbrev pub has_given : ℕ → T → View T → View T
   has_given k t v = made v.parts v.tasks Free (v.given ++ (k, t) ∷ [])
 
-  -- How often the number stands among what was given or is in hand.
+  -- How often the number is among what was given or is in hand.
   abbrev pub has : ℕ → View T → ℕ
   has k v = in_hand k v.doing + total (λ (g : ℕ × T). one_if k g.0) v.given
 
@@ -84,7 +84,7 @@ module _ {T : Type 0} where
   InDoing tasks word (HasTask k) = (k < length tasks) × (k < word)
   InDoing tasks word _ = Unit {0}
 
-  -- One view, held against the tasks and the next number.
+  -- One view fits the tasks and the next number.
   pub record SeatFits (tasks : List T) (word : ℕ) (v : View T) : Type 0 where
     pub tasks_are : v.tasks ≡ tasks
     pub some_part : 0 < v.parts
@@ -107,9 +107,9 @@ module _ {T : Type 0} where
     pub gone : (j : ℕ) (v : View T) → get_elem? s.views j ≡ some v → v.doing ≡ Spent → v ≡ spent
     -- So the word does not wrap.
     pub few : word + total rest_of s.views ≤ length tasks + hands
-    -- The views stand for all hands.
+    -- The views represent all hands.
     pub shared : total parts s.views ≡ hands
-    -- What was not claimed is home, as it was handed in.
+    -- A task that is not claimed is home, as it was handed in.
     pub fresh : (k : ℕ) (x : T) → word ≤ k → get_elem? tasks k ≡ some x → get_elem? s.homes k ≡ some (some (Some x))
     pub done : (k : ℕ) → k < word → k < length tasks → Claimed s.views s.homes k
     -- No number is claimed twice, and none before its time.
@@ -120,7 +120,7 @@ module _ {T : Type 0} where
   abbrev pub IsAbove : List (ℕ × T) → ℕ → Type 0
   IsAbove given n = (i k : ℕ) (t : T) → get_elem? given i ≡ some (k, t) → k < n
 
-  -- What the steps tell: the seat before, the number found, the seat after.
+  -- What the steps show: the seat before, the number found, the seat after.
   abbrev pub claimed : Step (Option T) → Me (Option T) (View T) → ℕ → Me (Option T) (View T) → Type 0
   claimed st m r n = (r < length m.0.tasks → (x : T) × (get_elem? m.0.tasks r ≡ some x) × (n ≡ (at_work (HasTask r) m.0, (r, Some x) ∷ m.1)))
       × (length m.0.tasks ≤ r → n ≡ (at_work (Ended r) m.0, m.1))

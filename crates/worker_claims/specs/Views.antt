@@ -10,7 +10,7 @@ pub record BoardView (T : Type 0) : Type 0 where
   pub tasks : List T
   pub hands : ℕ
 
--- Whose board's a hand is, the tasks of that board, what it is doing, and what it gave back, with its numbers.
+-- The board of a hand, the tasks of that board, what the hand is doing, and what it gave back, with the numbers.
 pub record HandView (T : Type 0) : Type 0 where
   pub board : TableId
   pub tasks : List T

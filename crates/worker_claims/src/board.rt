@@ -1,4 +1,5 @@
-//! Claiming a task and giving it back, each one atomic step at the board: a number is claimed once, and its task goes home to its place.
+//! Claiming a task and giving it back, each one atomic step at the board: a number is claimed once, and its task
+//! returns to its place.
 ghost use Rattle.std.specs.Prelude.{◌≡◌, ℕ, [], ◌∷◌, ◌++◌, Some, None, IfSome};
 ghost use Rattle.worker_claims.specs.declared.knowledge.Doing.TheVariants.{Free, HasTask};
 ghost use Rattle.worker_claims.specs.Rule.{has_given, IsAbove};
@@ -10,8 +11,8 @@ use crate::tokens::{Board, Hand};
 use atomic_table::Seat;
 
 impl<T> Board<T> {
-    /// The next task with its number, or `None` where all were claimed, or where this hand has had `None` before.
-    /// A hand's numbers rise. It waits for nobody and takes no memory.
+    /// The next task with its number; `None` if all were claimed, or if this hand got `None` before. A hand's numbers
+    /// rise. It does not block and takes no memory.
     pub fn claim(&self, hand: &mut Hand<T>) -> Option<(u64, T)>
         requires of { IsHandOf self.now hand.old }
         requires idle { HoldsNone hand.old.doing }
@@ -36,7 +37,7 @@ impl<T> Board<T> {
         Some((number, task))
     }
 
-    /// Gives back the task that the hand holds, worked. It waits for nobody and takes no memory.
+    /// Gives back the task that the hand holds, done. It does not block and takes no memory.
     pub fn give(&self, hand: &mut Hand<T>, number: u64, task: T)
         requires of { IsHandOf self.now hand.old }
         requires holds { hand.old.doing ≡ HasTask number }
@@ -47,7 +48,7 @@ impl<T> Board<T> {
         self.settle(&mut hand.seat, number, task);
     }
 
-    // The task into its slot, and the slot home.
+    // Puts the task into its slot, and brings the slot home.
     fn settle(&self, seat: &mut Seat<Option<T>, View<T>>, number: u64, task: T)
         requires of { seat.old.table_id ≡ self.now.id }
         requires holds { (seat.old.me.0.doing ≡ HasTask number) × (seat.old.me.1 ≡ (number, None) ∷ []) }
@@ -57,7 +58,7 @@ impl<T> Board<T> {
         self.bring_home(seat);
     }
 
-    // The task into its slot, which is out with the seat.
+    // Puts the task into its slot, which is out with the seat.
     fn put(&self, seat: &mut Seat<Option<T>, View<T>>, number: u64, task: T)
         requires { (seat.old.table_id ≡ self.now.id) × (seat.old.me.1 ≡ (number, None) ∷ []) }
         ensures { (seat.new.table_id ≡ seat.old.table_id) × (seat.new.me ≡ (seat.old.me.0, (number, Some task) ∷ [])) }
@@ -72,7 +73,7 @@ impl<T> Board<T> {
         }
     }
 
-    // The slot home, by a load of the word.
+    // Brings the slot home, by a load of the word.
     fn bring_home(&self, seat: &mut Seat<Option<T>, View<T>>)
         requires of { seat.old.table_id ≡ self.now.id }
         requires task { (k : ℕ) × (t : T) × (seat.old.me.0.doing ≡ HasTask k) × (seat.old.me.1 ≡ (k, Some t) ∷ []) }

@@ -1,4 +1,5 @@
-//! How a board is made and closed: the tasks move into slots, one seat is divided into hands, and at the end all come back in order.
+//! How a board is made and closed: the tasks move into slots, and one seat is divided into hands; at the end all tasks
+//! come back in order.
 ghost use Rattle.std.specs.Prelude.{◌≡◌, ℕ, ◌+◌, ◌<◌, ◌≤◌, List, [], ◌∷◌, ◌++◌, map, length, vec_len, vec_capacity, Some, None, IsSome, All, true, false, IfOk, IfErr, ◌-◌, ◌^◌, slice_index_or};
 ghost use Rattle.std.specs.Slots.{slots_items, slots_filled, slots_len, IsFull};
 ghost use mathlib.Core.Option.{some};
@@ -17,7 +18,7 @@ use atomic_table::{Closed, Refused, Seat, Table};
 use std::alloc::{AllocError, Global};
 use std::snapshot::Snapshot;
 
-// The tasks, in their order, into slots. Their row keeps its room.
+// Moves the tasks, in their order, into slots. Their row keeps its room.
 pub(crate) fn move_out<T>(tasks: &mut Vec<T>, slots: &mut Vec<Option<T>>)
     requires { (slots.old.items ≡ []) × (vec_len tasks.old ≤ vec_capacity slots.old) }
     ensures slots { slots.new.items ≡ map Some tasks.old.items }
@@ -29,7 +30,7 @@ pub(crate) fn move_out<T>(tasks: &mut Vec<T>, slots: &mut Vec<Option<T>>)
     }
 }
 
-// The tasks back into their row.
+// Moves the tasks back into their row.
 pub(crate) fn move_back<T>(mut slots: Vec<Option<T>>, tasks: &mut Vec<T>)
     requires some { All (λ o. IsSome o) slots.items }
     requires row { (tasks.old.items ≡ []) × (vec_len slots ≤ vec_capacity tasks.old) }
@@ -42,7 +43,7 @@ pub(crate) fn move_back<T>(mut slots: Vec<Option<T>>, tasks: &mut Vec<T>)
     slots.destroy_empty();
 }
 
-// Each slot's task, in order.
+// Collects each slot's task, in order.
 fn collect<T>(closed: &mut Closed<Option<T>, Global>, row: &mut Vec<T>, count: u64)
     requires slots { (slots_len closed.old.slots ≡ count) × IsFull closed.old.slots }
     requires some { All (λ o. IsSome o) (slots_items closed.old.slots) }
@@ -74,7 +75,7 @@ impl<T> Board<T> {
         self.table.shared.split_seat::<Deal>(seat)
     }
 
-    // What the other hand gave goes to the one that is kept.
+    // What the other hand gave goes to the kept one.
     fn join(&self, kept: &mut Seat<Option<T>, View<T>>, other: Seat<Option<T>, View<T>>)
         requires { (kept.old.table_id ≡ self.now.id) × (other.table_id ≡ self.now.id) × (other.me.1 ≡ []) × HasEnded kept.old.me.0.doing × HasEnded other.me.0.doing }
         ensures { (kept.new.table_id ≡ kept.old.table_id) × (kept.new.me ≡ (with kept.old.me.0 other.me.0, kept.old.me.1)) }
@@ -82,7 +83,7 @@ impl<T> Board<T> {
         self.table.shared.join_seat::<Gather>(kept, other);
     }
 
-    // All hands, the one that the table came with last.
+    // Makes all hands; the one that the table came with is the last.
     fn deal(&self, mut first: Seat<Option<T>, View<T>>, made: &mut Vec<Hand<T>>, hands: u64)
         requires first { (first.table_id ≡ self.now.id) × (first.me ≡ (newcomer self.now.tasks hands, [])) }
         requires hands { (0 < hands) × (hands ≤ vec_capacity made.old) × (made.old.items ≡ []) }
@@ -99,7 +100,7 @@ impl<T> Board<T> {
         });
     }
 
-    /// The tasks in their places, each as it was given back. It waits for nobody and takes no memory.
+    /// The tasks at their places, each as it was given back. It does not block and takes no memory.
     pub fn close(self, mut hands: Vec<Hand<T>>) -> Vec<T>
         requires hands { All (λ h. IsHandOf self h × HasEnded h.doing) hands.items }
         requires all { vec_len hands ≡ self.hands }
@@ -116,7 +117,7 @@ impl<T> Board<T> {
         self.gather(kept)
     }
 
-    // The tasks in their places, once only one seat is left.
+    // The tasks at their places, once only one seat is left.
     fn gather(self, kept: Seat<Option<T>, View<T>>) -> Vec<T>
         requires of { kept.table_id ≡ self.id }
         requires ended { HasEnded kept.me.0.doing × (kept.me.0.parts ≡ self.hands) }
@@ -142,7 +143,7 @@ impl<T: Drop> Board<T> {
     ///
     /// # Errors
     ///
-    /// Want of memory. The tasks come back as they were.
+    /// Out of memory. The tasks come back unchanged.
     pub fn new(
         alloc: Global,
         mut tasks: Vec<T>,

@@ -1,9 +1,9 @@
-//! What a hand knows. These types are for the proofs alone: no value of them is ever made.
+//! What a hand knows. These types are only for proofs: no value of them is ever made.
 use std::collections::LinkedList;
 
 /// What a hand is doing.
 pub enum Doing {
-    /// The hand has gone into another.
+    /// The hand was joined into another.
     Spent,
     /// It may claim a task.
     Free,
@@ -15,11 +15,11 @@ pub enum Doing {
 
 /// What one seat at the board's table knows.
 pub struct View<T> {
-    /// How many hands it stands for.
+    /// How many hands it represents.
     pub parts: u64,
     /// The tasks as they were handed in.
     pub tasks: LinkedList<T>,
     pub doing: Doing,
-    /// What it gave back, worked, with its numbers.
+    /// The tasks that it gave back, done, with their numbers.
     pub given: LinkedList<(u64, T)>,
 }

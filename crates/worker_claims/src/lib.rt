@@ -1,9 +1,9 @@
 //! A board of tasks that several threads claim, each task once.
 //!
-//! Start with [`work_all`], which works all tasks in as many threads as it has hands, by a [`Worker`]. Below it stand the
-//! [`Board`] with `claim`, `give` and `close`, and the [`Hand`] that one thread claims with.
-//! A claim costs one atomic step, a giving back another. Memory is taken before the first claim alone.
-//! Nothing is promised of which hand gets which task, or of progress.
+//! Start with [`work_all`], in which a [`Worker`] does all tasks, in as many threads as there are hands. It is built on
+//! the [`Board`] with `claim`, `give` and `close`, and the [`Hand`] with which one thread claims. A claim and a give
+//! cost one atomic step each. Memory is taken only before the first claim. Which hand gets which task is not promised,
+//! nor progress.
 #![tactic(auto)]
 
 mod board;

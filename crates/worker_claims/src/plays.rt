@@ -1,17 +1,18 @@
-//! What each step tells the hand that makes it, and what dividing and joining hands does. These types are for the proofs alone.
+//! What each step shows the hand that makes it, and what dividing and joining hands does. These types are only for
+//! proofs.
 ghost use Rattle.worker_claims.specs.Rule.{claimed, gave, without_one, the_one, with, spent};
 
 use crate::knowledge::View;
 use atomic_table::{Join, Play, Split};
 
-/// The next number goes to the hand, with the task of that number where there is one.
+/// The hand gets the next number, with the task of that number if there is one.
 pub struct Claim;
 
 impl<T> Play<Option<T>, View<T>> for Claim {
     ghost then = { claimed };
 }
 
-/// The task goes home, and to what the hand gave.
+/// The task returns to its place, and is noted as given by the hand.
 pub struct Give;
 
 impl<T> Play<Option<T>, View<T>> for Give {

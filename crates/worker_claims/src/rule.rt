@@ -6,7 +6,7 @@ use atomic_table::TableRule;
 use std::marker::PhantomData;
 use std::snapshot::Snapshot;
 
-/// What a board is made with: the tasks, as a fact for proofs, and how many hands.
+/// The parameters of a board: the tasks, as a fact for proofs, and the number of hands.
 #[derive(Drop)]
 pub struct Setup<T> {
     pub tasks: Snapshot<Vec<T>>,

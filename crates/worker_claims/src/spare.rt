@@ -1,4 +1,4 @@
-//! An empty row that threads may hold together, though they may not share its elements.
+//! An empty row that threads can hold together, although they cannot share its elements.
 ghost use Rattle.std.specs.Prelude.{◌≡◌, ◌≤◌, [], vec_capacity, IfOk, IfErr};
 
 use atomic_table::{Refused, Table, TableRule};
@@ -18,7 +18,7 @@ impl<T> TableRule<Vec<T>, (), u64> for Empty<T> {
     ghost first = { λ _. tt };
 }
 
-/// A row without elements. In a clause it is seen as the number that it has room for.
+/// A row without elements. It is modelled by the number that it has room for.
 #[derive(Drop)]
 pub(crate) struct Spare<T> {
     table: Table<Vec<T>, (), u64, Empty<T>, Global>,

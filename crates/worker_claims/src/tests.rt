@@ -1,4 +1,4 @@
-//! Boards of a few numbers: each task is worked in its place, two at once, and each number is given once.
+//! Boards of a few numbers: each task is done at its place, two at the same time, and each number is given once.
 ghost use Rattle.std.specs.Prelude.{◌≡◌, ◌+◌, ◌<◌, ◌^◌, ℕ};
 ghost use Rattle.worker_claims.specs.declared.knowledge.Doing.TheVariants.{Free};
 ghost use Rattle.worker_claims.specs.Hands.{IsHandOf};
@@ -40,7 +40,7 @@ fn each_task_is_worked_in_its_place(rt: HostRuntime) -> Result<(), Fail> {
     Ok(())
 }
 
-/// Holds task 0 back until task 1 has passed, for so many turns at most, and counts who comes.
+/// Holds task 0 back until task 1 has passed, for a limited number of looks, and counts the passes.
 #[derive(Drop)]
 struct Waits {
     comers: AtomicU64,
@@ -83,7 +83,7 @@ fn two_tasks_are_under_way_together(rt: HostRuntime) -> Result<(), Fail> {
     Ok(())
 }
 
-/// Claims what is wanted, and gives something else back.
+/// Claims a task, which must be the wanted one, and gives `worked` back in its place.
 fn works_next<R: Abort>(
     rt: &R,
     board: &Board<u64>,

@@ -1,4 +1,4 @@
-//! The board and its hands, as they lie in memory.
+//! The board and its hands, as they are in memory.
 use crate::knowledge::View;
 use crate::rule::{Claims, Setup};
 use crate::spare::Spare;
@@ -6,12 +6,12 @@ use atomic_table::{Seat, Table};
 use std::alloc::Global;
 use std::marker::Model;
 
-/// A board of tasks. In a clause it is seen as its name, the tasks as they were handed in, and how many hands it has.
+/// A board of tasks. It is modelled by its name, the tasks as they were handed in, and how many hands it has.
 #[derive(Drop)]
 pub struct Board<T> {
-    // The tasks lie in the table's slots.
+    // The tasks are in the table's slots.
     pub(crate) table: Table<Option<T>, View<T>, Setup<T>, Claims<T>, Global>,
-    // The row that they came in, and go back to: empty, with room for them.
+    // The row in which they came and to which they return: empty, with room for them.
     pub(crate) spare: Spare<T>,
     pub(crate) count: u64,
 }
@@ -27,7 +27,8 @@ impl<T> Model for Board<T> {
     ghost invariant = { λ b. (b.table.shared.table_id.words ≡ 1) × (b.table.shared.table_id.slots ≡ b.count) × (b.count ≤ b.spare) × (length b.table.shared.key.tasks.value.items ≡ b.count) × (b.count < 2 ^ 32) × (0 < b.table.shared.key.hands) };
 }
 
-/// The right to claim tasks of one board. In a clause it is seen as the board's name and tasks, what it is doing, and what it gave.
+/// The right to claim tasks of one board. It is modelled by the board's name and tasks, what it is doing, and what it
+/// gave.
 #[derive(Drop)]
 pub struct Hand<T> {
     pub(crate) seat: Seat<Option<T>, View<T>>,

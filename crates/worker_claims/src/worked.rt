@@ -1,4 +1,5 @@
-//! All tasks, worked by several threads: each hand claims, passes the gate, works and gives back until nothing is left.
+//! All tasks, done by several threads: each hand claims a task, passes the gate, does the task and gives it back, until
+//! none is left.
 ghost use Rattle.std.specs.Prelude.{◌≡◌, ◌<◌, ◌≤◌, ◌^◌, [], length, vec_len, IfOk, IfErr, All};
 ghost use Rattle.worker_claims.specs.declared.knowledge.Doing.TheVariants.{Free};
 ghost use Rattle.worker_claims.specs.Hands.{IsHandOf, HasEnded, AllWorked, AllReady, IsWorked, gated};
@@ -11,7 +12,7 @@ use std::sync::Wait;
 use std::thread;
 use std::thread::Threads;
 
-// Claims and works one task after another until none is left.
+// Claims and does one task after another until none is left.
 fn work_hand<T, G: Gate, W: Worker<T>, R: Threads + Wait + Sync>(
     rt: &R,
     board: &Board<T>,
@@ -62,12 +63,12 @@ fn work_hands<T: Send, G: Gate, W: Worker<T>, R: Threads + Wait + Sync>(
     );
 }
 
-/// Works each task once, in as many threads as there are hands, and gives them back in their places.
-/// The gate is passed before each task. No task is copied.
+/// Does each task once, in as many threads as there are hands, and gives the tasks back at their places. The gate is
+/// passed before each task. No task is copied. It may block.
 ///
 /// # Errors
 ///
-/// Want of memory, before any task is worked. The tasks come back untouched.
+/// Out of memory, before any task is done. The tasks come back unchanged.
 pub fn work_all<T: Send + Drop, G: Gate, W: Worker<T>, R: Threads + Wait + Sync>(
     rt: &R,
     alloc: Global,

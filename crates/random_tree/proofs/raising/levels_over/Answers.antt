@@ -3,7 +3,7 @@ use Rattle.std.proofs.Math.Nat.{mul-le-mul_left}
 use Rattle.random_tree.proofs.GroupLaws.{double}
 use Rattle.random_tree.proofs.raising.levels_over.Goals as goal
 
--- Half of so many, with what is left over, twice.
+-- Half of a number, rounded up, twice.
 halved : (n p : ℕ) → n * p ≤ (n - n / 2) * (2 * p)
 halved n p = let le : n ≤ (n - n / 2) * 2 = omega arith in let a = mul-le-mul_left p le in omega (arith, a)
 

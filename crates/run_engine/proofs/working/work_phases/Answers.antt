@@ -25,7 +25,7 @@ use Rattle.run_engine.proofs.RunParts.{parts-uncounted}
 use Rattle.run_engine.proofs.EngineSteps.{texts-for, hold-each}
 use Rattle.run_engine.proofs.working.work_phases.Goals as goal
 
--- Nothing was done: want of memory for the inputs.
+-- Nothing was done: out of memory for the inputs.
 
 pub returns-in-Err-clause-lanes : goal.returns-in-Err-clause-lanes
 returns-in-Err-clause-lanes g c = lanes-untried c.args.count (g.J.Job.setting c.args.job.now) c.args.leaf_memo.now.locks (texts_of c.args.leaves.now.items) c.args.lanes.now.items c.requires.lanes.seats
