@@ -15,6 +15,8 @@ mod kind_tests;
 #[cfg(test)]
 mod plain_tests;
 #[cfg(test)]
+mod session_tests;
+#[cfg(test)]
 mod sheet_tests;
 #[cfg(test)]
 mod tests;

@@ -262,10 +262,16 @@ impl<J: Job, T: Tree<J>> Desk<J, T> {
         let mut callers = Vec::new(alloc);
         callers.push(caller)?;
         let mut count = 0usize;
-        if let Ok(shards) = memo.close(callers) {
-            'shards: for i in 0..shards.len() {
-                count = count.saturating_add(looks_in(shards[i].history()));
-            }
+        let shards = match memo.close(callers) {
+            Ok(shards) => shards,
+            // Out of memory all comes back, so it can be closed again.
+            Err((_, memo, callers)) => match memo.close(callers) {
+                Ok(shards) => shards,
+                Err((e, _, _)) => return Err(e),
+            },
+        };
+        'shards: for i in 0..shards.len() {
+            count = count.saturating_add(looks_in(shards[i].history()));
         }
         Ok(count)
     }
