@@ -1,6 +1,6 @@
 //! What single runs count, worked out by hand: records mapped, tables merged, values joined.
 
-use crate::desk::settings;
+use crate::desk::{Jobs, settings};
 use crate::steps::Step::{self, Bucket, Drop, Edit, File, Late, Load, Remove, Run};
 use crate::steps::plays;
 use coalescing_tree::CoalescingTree;
@@ -28,15 +28,8 @@ fn counts<T: Tree<Counting>, R: Threads + Wait + Sync>(
 where
     T: Send,
 {
-    plays::<Counting, T, R>(
-        rt,
-        alloc,
-        start,
-        Count::new(),
-        Count::new(),
-        settings,
-        steps,
-    )
+    let jobs = Jobs::new(alloc, Count::new(), Count::new())?;
+    plays::<Counting, T, R>(rt, alloc, start, jobs, settings, steps)
 }
 
 #[test]

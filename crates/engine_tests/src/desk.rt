@@ -2,11 +2,12 @@
 ghost use Rattle.std.specs.Prelude.{◌≡◌, All, IsTrue, IfOk, IfSome};
 ghost use Rattle.job_laws.specs.Meanings.{AllAccepted, meaning_of};
 
+use definitions::MOST_SCRIPT;
 use job_laws::{CountMeter, Job, Meter, MeterRow};
-use record_text::{Command, Records};
+use record_text::{Command, Records, ScriptReader};
 use run_engine::{Engine, Settings};
 use sheets::{Sheet, map_sheets, same_sheet};
-use slider_io::{Gate, NoGate};
+use slider_io::{Gate, NoGate, SureSource};
 use std::alloc::{AllocError, Global};
 use std::marker::Model;
 use std::sync::Wait;
@@ -33,19 +34,43 @@ impl Work {
     }
 }
 
+/// What a desk is made of: the job of its engine, which may run out of memory, another one that means the same, and the
+/// meters of both. Whoever makes it says which meters these are, so that the desk itself does not know.
+#[derive(Drop)]
+pub struct Jobs<J: Job> {
+    engine: J,
+    plain: J,
+    meters: MeterRow<J::Meter>,
+    meter: J::Meter,
+}
+
+impl<J: Job<Meter = CountMeter>> Jobs<J> {
+    /// These jobs, with meters at zero.
+    pub fn new(alloc: Global, engine: J, plain: J) -> Result<Jobs<J>, AllocError> {
+        Ok(Jobs {
+            engine,
+            plain,
+            meters: new_meters(alloc)?,
+            meter: CountMeter::new(),
+        })
+    }
+}
+
 /// An engine over a window, with meters, and how many commands the window was given. It is seen as how many runs it made.
 #[derive(Drop)]
-pub struct Desk<J: Job<Meter = CountMeter>, T: Tree<J>> {
+pub struct Desk<J: Job, T: Tree<J>> {
     alloc: Global,
-    job: J,
     engine: Engine<J, T>,
     window: Window,
-    meters: MeterRow<CountMeter>,
+    meters: MeterRow<J::Meter>,
+    plain: J,
+    // Of what is computed plainly.
+    meter: J::Meter,
     parts: u32,
     told: u64,
 }
 
-impl<J: Job<Meter = CountMeter>, T: Tree<J>> Model for Desk<J, T> {
+impl<J: Job, T: Tree<J>> Model for Desk<J, T> {
     ghost use Rattle.std.specs.Prelude.{ℕ};
     ghost use Rattle.engine_tests.specs.Desks.{IsDesk};
 
@@ -134,7 +159,7 @@ fn gather<J: Job>(job: &J, leaf: &Records, all: &mut Records) -> Result<bool, Al
 }
 
 // What the meters of a row have counted together.
-fn counted(meters: &MeterRow<CountMeter>) -> Work {
+fn counted<M: Meter>(meters: &MeterRow<M>) -> Work {
     let mut work = Work {
         maps: 0,
         merges: 0,
@@ -150,27 +175,32 @@ fn counted(meters: &MeterRow<CountMeter>) -> Work {
     work
 }
 
-impl<J: Job<Meter = CountMeter>, T: Tree<J>> Desk<J, T> {
+impl<J: Job, T: Tree<J>> Desk<J, T> {
     /// An engine before its first run, whose locks start at `start`, and an empty window. Settings past their limits and a
-    /// `start` past 2^62 are refused. Both jobs must mean the same, but the engine's own may run out of memory.
+    /// `start` past 2^62 are refused.
     pub fn new(
         alloc: Global,
         start: u64,
-        job: J,
-        engine_job: J,
+        jobs: Jobs<J>,
         settings: Settings,
     ) -> Result<Desk<J, T>, AllocError> {
         if start > 1 << 62 || !settings.are_within() {
             return Err(AllocError);
         }
-        let meters = new_meters(alloc)?;
-        let engine = Engine::starting_at(alloc, start, engine_job, settings)?;
+        let Jobs {
+            engine: job,
+            plain,
+            meters,
+            meter,
+        } = jobs;
+        let engine = Engine::starting_at(alloc, start, job, settings)?;
         Ok(Desk {
             alloc,
-            job,
             engine,
             window: Window::new(alloc, T::KIND, settings.places),
             meters,
+            plain,
+            meter,
             parts: settings.parts,
             told: 0,
         })
@@ -205,6 +235,7 @@ impl<J: Job<Meter = CountMeter>, T: Tree<J>> Desk<J, T> {
     where
         J: Send + Sync,
         J::Val: Send + Sync,
+        J::Meter: Send + Sync,
         T: Send,
     {
         if self.engine.runs() >= 1 << 62 || !accepts_window(self.engine.job(), &self.window) {
@@ -229,6 +260,7 @@ impl<J: Job<Meter = CountMeter>, T: Tree<J>> Desk<J, T> {
     where
         J: Send + Sync,
         J::Val: Send + Sync,
+        J::Meter: Send + Sync,
         T: Send,
     {
         let runs = self.engine.runs();
@@ -241,6 +273,7 @@ impl<J: Job<Meter = CountMeter>, T: Tree<J>> Desk<J, T> {
     where
         J: Send + Sync,
         J::Val: Send + Sync,
+        J::Meter: Send + Sync,
         T: Send,
     {
         let runs = self.engine.runs();
@@ -255,6 +288,7 @@ impl<J: Job<Meter = CountMeter>, T: Tree<J>> Desk<J, T> {
     where
         J: Send + Sync,
         J::Val: Send + Sync,
+        J::Meter: Send + Sync,
         T: Send,
     {
         let runs = self.engine.runs();
@@ -272,13 +306,12 @@ impl<J: Job<Meter = CountMeter>, T: Tree<J>> Desk<J, T> {
 
     /// Whether each root is the sheet of its part that is made of all records of the window from nothing. A window without
     /// leaves must have no root.
-    pub fn agrees(&self) -> Result<bool, AllocError> {
-        let all = match gathered(self.alloc, &self.job, &self.window)? {
+    pub fn agrees(&mut self) -> Result<bool, AllocError> {
+        let all = match gathered(self.alloc, &self.plain, &self.window)? {
             Some(all) => all,
             None => return Ok(false),
         };
-        let mut m = CountMeter::new();
-        let plain = map_sheets(self.alloc, &self.job, &all, self.parts, &mut m)?;
+        let plain = map_sheets(self.alloc, &self.plain, &all, self.parts, &mut self.meter)?;
         if self.window.leaf_count() == 0 {
             return Ok(self.digests()?.is_empty());
         }
@@ -298,6 +331,58 @@ impl<J: Job<Meter = CountMeter>, T: Tree<J>> Desk<J, T> {
             }
         }
         true
+    }
+
+    /// What the commands of a script write, each run its header and then the lines of one part after the other. A script
+    /// with a fault, a command that is refused and a run that is out of memory end it.
+    pub fn answers<R: Threads + Wait + Sync>(
+        &mut self,
+        rt: &R,
+        script: &[u8],
+    ) -> Result<Vec<u8>, AllocError>
+    where
+        J: Send + Sync,
+        J::Val: Send + Sync,
+        J::Meter: Send + Sync,
+        T: Send,
+    {
+        let mut source = SureSource::new(Vec::from_slice(self.alloc, script)?);
+        let mut reader = ScriptReader::new(&mut source, self.alloc, MOST_SCRIPT);
+        let mut out = Vec::new(self.alloc);
+        'commands: loop {
+            let command = match reader.next(self.alloc) {
+                Ok(Some(command)) => command,
+                Ok(None) => return Ok(out),
+                Err(_) => return Err(AllocError),
+            };
+            let went = match command {
+                Command::Run => self.run(rt, &NoGate).is_some() && self.writes(&mut out)?,
+                command => self.apply(command)?,
+            };
+            if !went {
+                return Err(AllocError);
+            }
+        }
+    }
+
+    // Appends the answer of the last run, and says whether the sheets are of the job's setting.
+    fn writes(&self, out: &mut Vec<u8>) -> Result<bool, AllocError> {
+        let run = self.engine.runs();
+        let mut keys = 0usize;
+        let mut lines = Vec::new(self.alloc);
+        'parts: for part in 0..self.parts {
+            if let Some(root) = self.engine.root(part) {
+                if root.setting() != self.plain.setting() {
+                    return Ok(false);
+                }
+                keys = keys.wrapping_add(root.entries().len());
+                root.write_lines(self.alloc, &self.plain, &mut lines)?;
+            }
+        }
+        let header = format!(in self.alloc; "# run {run} keys {keys}\n")?;
+        out.extend_from_slice(header.as_bytes())?;
+        out.extend_from_slice(lines.as_slice())?;
+        Ok(true)
     }
 
     // The digests of all roots, end to end.

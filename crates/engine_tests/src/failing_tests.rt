@@ -1,10 +1,9 @@
 //! Runs that are out of memory, and are made again.
 
-use crate::desk::settings;
+use crate::desk::{Jobs, settings};
 use crate::refusing::Refusing;
-use crate::steps::Step::{self, Bucket, Fails, Insists, Late, Run};
+use crate::steps::Step::{self, Bucket, Fails, Insists, Late, Run, Walk};
 use crate::steps::plays;
-use crate::walks::walks;
 use coalescing_tree::CoalescingTree;
 use folding_tree::FoldingTree;
 use job_laws::CountMeter;
@@ -31,8 +30,8 @@ fn all_pass<T: Tree<Counting>, R: Threads + Wait + Sync>(
 where
     T: Send,
 {
-    let job = Refusing::new(refused);
-    let passed = plays::<Counting, T, R>(rt, alloc, 0, Refusing::new(0), job, settings, steps)?;
+    let jobs = Jobs::new(alloc, Refusing::new(refused), Refusing::new(0))?;
+    let passed = plays::<Counting, T, R>(rt, alloc, 0, jobs, settings, steps)?;
     Ok(passed == steps.len())
 }
 
@@ -126,40 +125,37 @@ fn all_parts_go_back_where_one_fails(rt: HostRuntime) -> Result<(), Fail> {
 // The calls that walks refuse, one in each.
 const REFUSED: [u64; 7] = [1, 4, 9, 16, 25, 36, 49];
 
-// Whether a walk over a tree passes if its job refuses call `refused`.
-fn goes_on<T: Tree<Counting>, R: Threads + Wait + Sync>(
-    rt: &R,
-    alloc: Global,
-    refused: u64,
-) -> Result<bool, AllocError>
-where
-    T: Send,
-{
-    let job = Refusing::new(refused);
-    walks::<Counting, T, R>(
-        rt,
-        alloc,
-        0,
-        Refusing::new(0),
-        job,
-        settings(4, 2, 4, 1),
-        18,
-    )
-}
-
 #[test]
 fn a_walk_goes_on_after_a_failed_run(rt: HostRuntime) -> Result<(), Fail> {
     for refused in REFUSED {
         assert!(rt;
-            goes_on::<CoalescingTree<Counting>, HostRuntime>(&rt, rt.alloc(), refused)?,
+            all_pass::<CoalescingTree<Counting>, HostRuntime>(
+                &rt,
+                rt.alloc(),
+                refused,
+                settings(4, 2, 4, 1),
+                &[Walk(18)]
+            )?,
             "at call {refused}"
         );
         assert!(rt;
-            goes_on::<FoldingTree<Counting>, HostRuntime>(&rt, rt.alloc(), refused)?,
+            all_pass::<Buckets, HostRuntime>(
+                &rt,
+                rt.alloc(),
+                refused,
+                settings(4, 2, 4, 1),
+                &[Walk(18)]
+            )?,
             "at call {refused}"
         );
         assert!(rt;
-            goes_on::<RandomTree<Counting>, HostRuntime>(&rt, rt.alloc(), refused)?,
+            all_pass::<RandomTree<Counting>, HostRuntime>(
+                &rt,
+                rt.alloc(),
+                refused,
+                settings(4, 2, 4, 1),
+                &[Walk(18)]
+            )?,
             "at call {refused}"
         );
     }

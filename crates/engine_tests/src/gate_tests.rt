@@ -1,6 +1,6 @@
 //! Gates that hold a task back until another one has passed.
 
-use crate::desk::{Desk, settings};
+use crate::desk::{Desk, Jobs, settings};
 use crate::made::records;
 use folding_tree::FoldingTree;
 use job_laws::CountMeter;
@@ -67,8 +67,7 @@ fn passes_in_time<R: Threads + Wait + Sync>(
     let mut desk = Desk::<Counting, FoldingTree<Counting>>::new(
         alloc,
         0,
-        Count::new(),
-        Count::new(),
+        Jobs::new(alloc, Count::new(), Count::new())?,
         settings(2, 1, 1, 5),
     )?;
     let told = desk.apply(Command::Bucket(records(alloc, "b a b")?))?;

@@ -3,6 +3,8 @@
 #![tactic(auto)]
 
 #[cfg(test)]
+mod circle_tests;
+#[cfg(test)]
 mod count_tests;
 #[cfg(test)]
 mod desk;
@@ -14,6 +16,8 @@ mod gate_tests;
 mod made;
 #[cfg(test)]
 mod refusing;
+#[cfg(test)]
+mod script_tests;
 #[cfg(test)]
 mod steps;
 #[cfg(test)]

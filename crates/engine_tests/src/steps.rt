@@ -1,8 +1,8 @@
 //! Steps at a desk, and what must be seen after each: so a test is a list.
 
-use crate::desk::{Desk, Work};
+use crate::desk::{Desk, Jobs, Work};
 use crate::made::{name, records};
-use job_laws::{CountMeter, Job};
+use job_laws::Job;
 use record_text::Command;
 use run_engine::Settings;
 use std::alloc::{AllocError, Global};
@@ -26,9 +26,13 @@ pub enum Step<'a> {
     Fails,
     /// A run of any work, which is made once more if it is out of memory.
     Insists,
+    /// A walk of this many steps.
+    Walk(u32),
+    /// A script, and what it must write.
+    Script(&'a str, &'a str),
 }
 
-// The command of a step, or none if it is a run.
+// The command of a step, or none if it is another one.
 fn command_of(alloc: Global, step: &Step) -> Result<Option<Command>, AllocError> {
     let command = match *step {
         Step::Bucket(text) => Command::Bucket(records(alloc, text)?),
@@ -49,12 +53,12 @@ fn command_of(alloc: Global, step: &Step) -> Result<Option<Command>, AllocError>
             ins: records(alloc, text)?,
         },
         Step::Load(text) => Command::Load(records(alloc, text)?),
-        Step::Run(_, _, _) | Step::Fails | Step::Insists => return Ok(None),
+        _ => return Ok(None),
     };
     Ok(Some(command))
 }
 
-impl<J: Job<Meter = CountMeter>, T: Tree<J>> Desk<J, T> {
+impl<J: Job, T: Tree<J>> Desk<J, T> {
     /// How many of the steps passed before one failed.
     pub fn plays<R: Threads + Wait + Sync>(
         &mut self,
@@ -64,6 +68,7 @@ impl<J: Job<Meter = CountMeter>, T: Tree<J>> Desk<J, T> {
     where
         J: Send + Sync,
         J::Val: Send + Sync,
+        J::Meter: Send + Sync,
         T: Send,
     {
         'steps: for i in 0..steps.len() {
@@ -83,6 +88,7 @@ impl<J: Job<Meter = CountMeter>, T: Tree<J>> Desk<J, T> {
     where
         J: Send + Sync,
         J::Val: Send + Sync,
+        J::Meter: Send + Sync,
         T: Send,
     {
         match *step {
@@ -96,6 +102,10 @@ impl<J: Job<Meter = CountMeter>, T: Tree<J>> Desk<J, T> {
             }
             Step::Fails => self.fails(rt),
             Step::Insists => self.insists(rt),
+            Step::Walk(steps) => self.walks(rt, steps),
+            Step::Script(script, answers) => {
+                Ok(self.answers(rt, script.as_bytes())?.as_slice() == answers.as_bytes())
+            }
             _ => match command_of(self.alloc(), step)? {
                 Some(command) => self.apply(command),
                 None => Ok(false),
@@ -104,22 +114,22 @@ impl<J: Job<Meter = CountMeter>, T: Tree<J>> Desk<J, T> {
     }
 }
 
-/// How many of the steps passed at a new desk before one failed; `Desk::new` says what it takes. It is generic in the
-/// tree, as is each function that calls it but the tests: a proof over a whole engine is shorter so.
-pub fn plays<J: Job<Meter = CountMeter>, T: Tree<J>, R: Threads + Wait + Sync>(
+/// How many of the steps passed at a new desk before one failed; `Desk::new` says what it takes. It is generic in job
+/// and tree, and each function that knows both calls it once: a proof over a whole engine is long.
+pub fn plays<J: Job, T: Tree<J>, R: Threads + Wait + Sync>(
     rt: &R,
     alloc: Global,
     start: u64,
-    job: J,
-    engine_job: J,
+    jobs: Jobs<J>,
     settings: Settings,
     steps: &[Step],
 ) -> Result<usize, AllocError>
 where
     J: Send + Sync,
     J::Val: Send + Sync,
+    J::Meter: Send + Sync,
     T: Send,
 {
-    let mut desk = Desk::<J, T>::new(alloc, start, job, engine_job, settings)?;
+    let mut desk = Desk::<J, T>::new(alloc, start, jobs, settings)?;
     desk.plays(rt, steps)
 }

@@ -1,7 +1,8 @@
-//! Walks over the trees, with 1, 4 and 16 workers and parts and with 1 and 8 shards, and over worn locks.
+//! Walks over the trees but that of a circle, with 1, 4 and 16 workers and parts and with 1 and 8 shards, and over worn locks.
 
-use crate::desk::settings;
-use crate::walks::walks;
+use crate::desk::{Jobs, settings};
+use crate::steps::Step::Walk;
+use crate::steps::plays;
 use coalescing_tree::CoalescingTree;
 use folding_tree::FoldingTree;
 use job_laws::CountMeter;
@@ -31,15 +32,9 @@ fn latest_walks<T: Tree<Last>, R: Threads + Wait + Sync>(
 where
     T: Send,
 {
-    walks::<Last, T, R>(
-        rt,
-        alloc,
-        start,
-        Latest::new(),
-        Latest::new(),
-        settings(workers, shards, workers, 1),
-        steps,
-    )
+    let jobs = Jobs::new(alloc, Latest::new(), Latest::new())?;
+    let settings = settings(workers, shards, workers, 1);
+    Ok(plays::<Last, T, R>(rt, alloc, start, jobs, settings, &[Walk(steps)])? == 1)
 }
 
 #[test]

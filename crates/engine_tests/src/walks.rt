@@ -2,14 +2,13 @@
 
 use crate::desk::Desk;
 use crate::made::command_of_step;
-use job_laws::{CountMeter, Job};
-use run_engine::Settings;
-use std::alloc::{AllocError, Global};
+use job_laws::Job;
+use std::alloc::AllocError;
 use std::sync::Wait;
 use std::thread::Threads;
 use tree_laws::Tree;
 
-impl<J: Job<Meter = CountMeter>, T: Tree<J>> Desk<J, T> {
+impl<J: Job, T: Tree<J>> Desk<J, T> {
     /// Whether a walk of `steps` steps passes: at each the window takes a command, and at two of three the roots agree after
     /// a run, which is made once more if it is out of memory.
     pub fn walks<R: Threads + Wait + Sync>(
@@ -20,6 +19,7 @@ impl<J: Job<Meter = CountMeter>, T: Tree<J>> Desk<J, T> {
     where
         J: Send + Sync,
         J::Val: Send + Sync,
+        J::Meter: Send + Sync,
         T: Send,
     {
         'steps: for step in 0..steps {
@@ -33,23 +33,4 @@ impl<J: Job<Meter = CountMeter>, T: Tree<J>> Desk<J, T> {
         }
         Ok(true)
     }
-}
-
-/// Whether a walk of `steps` steps passes at a new desk; `Desk::new` says what it takes.
-pub fn walks<J: Job<Meter = CountMeter>, T: Tree<J>, R: Threads + Wait + Sync>(
-    rt: &R,
-    alloc: Global,
-    start: u64,
-    job: J,
-    engine_job: J,
-    settings: Settings,
-    steps: u32,
-) -> Result<bool, AllocError>
-where
-    J: Send + Sync,
-    J::Val: Send + Sync,
-    T: Send,
-{
-    let mut desk = Desk::<J, T>::new(alloc, start, job, engine_job, settings)?;
-    desk.walks(rt, steps)
 }

@@ -13,4 +13,4 @@ invariant_of-result g c =
     let parts = c.args.settings.parts in
     subst (λ (w : WindowView). IsDesk g.T.Tree.KIND parts 0 engine w) (sym c.new.ensures)
     (subst (λ (k : Kind). IsDesk g.T.Tree.KIND parts 0 engine (no_leaves k c.args.settings.places)) (sym c.KIND.ensures)
-    (desk-new g.J.Job g.T.Tree.view g.T.Tree.pins c.args.start c.args.engine_job c.args.settings g.T.Tree.KIND engine within c.in_ok-engine.ensures))
+    (desk-new g.J.Job g.T.Tree.view g.T.Tree.pins c.args.start c.args.jobs.engine c.args.settings g.T.Tree.KIND engine within c.in_ok-engine.ensures))
