@@ -1,6 +1,5 @@
 //! What `serve` and `Session::step` return if a device fails, called directly. All is generic in job and tree, since a
 //! proof over a whole session becomes too long if it sees which they are.
-ghost use Rattle.std.specs.Prelude.{◌≡◌, length, IfOk};
 
 use coalescing_tree::CoalescingTree;
 use job_laws::{CountMeter, Job, MeterRow};
@@ -8,8 +7,9 @@ use jobs_basic::Count;
 use record_text::Command;
 use run_settings::Settings;
 use slider_io::{MemSink, MemSource, NoGate, SureSink};
+use slider_program::new_meters;
 use slider_session::{Halt, Session, serve};
-use std::alloc::{AllocError, Global};
+use std::alloc::Global;
 use std::sync::Wait;
 use std::test::Fail;
 use std::thread::Threads;
@@ -18,17 +18,6 @@ use tree_laws::Tree;
 type Words = Count<CountMeter>;
 
 type Growing = CoalescingTree<Words>;
-
-// As many meters as there are lanes, and parts.
-fn meters(alloc: Global) -> Result<Vec<CountMeter>, AllocError>
-    ensures { IfOk result (λ meters. length meters.items ≡ 16) }
-{
-    let mut meters = Vec::new(alloc);
-    'meters: while meters.len() < 16 {
-        meters.push(CountMeter::new())?;
-    }
-    Ok(meters)
-}
 
 // What serving a script writes, and how it ends, over devices of which the source moves one byte at each call and `out`
 // four. Each of them fails at the call with its number; 0 is none.
@@ -71,15 +60,12 @@ const SCRIPT: &[u8] = b"bucket 1\nb a b\nrun\nrun\n";
 #[test]
 fn serving_ends_at_a_failed_read_after_all_runs_before_it(rt: HostRuntime) -> Result<(), Fail> {
     let alloc = rt.alloc();
-    let mut row = MeterRow {
-        lanes: meters(alloc)?,
-        parts: meters(alloc)?,
-    };
+    let mut meters = new_meters(alloc)?;
     let (out, ended) = served::<Words, Growing, HostRuntime>(
         &rt,
         alloc,
         Words::new(),
-        &mut row,
+        &mut meters,
         SCRIPT,
         22,
         0,
@@ -92,15 +78,12 @@ fn serving_ends_at_a_failed_read_after_all_runs_before_it(rt: HostRuntime) -> Re
 #[test]
 fn serving_ends_at_a_failed_write_after_a_prefix(rt: HostRuntime) -> Result<(), Fail> {
     let alloc = rt.alloc();
-    let mut row = MeterRow {
-        lanes: meters(alloc)?,
-        parts: meters(alloc)?,
-    };
+    let mut meters = new_meters(alloc)?;
     let (out, ended) = served::<Words, Growing, HostRuntime>(
         &rt,
         alloc,
         Words::new(),
-        &mut row,
+        &mut meters,
         SCRIPT,
         0,
         3,
@@ -134,15 +117,12 @@ where
 #[test]
 fn a_run_whose_write_failed_is_kept(rt: HostRuntime) -> Result<(), Fail> {
     let alloc = rt.alloc();
-    let mut row = MeterRow {
-        lanes: meters(alloc)?,
-        parts: meters(alloc)?,
-    };
+    let mut meters = new_meters(alloc)?;
     let (first, second) = run_twice::<Words, Growing, HostRuntime>(
         &rt,
         alloc,
         Words::new(),
-        &mut row,
+        &mut meters,
     )?;
     assert_eq!(rt; first, Err(Halt::Write));
     assert_eq!(rt; second.as_slice(), b"# run 2 keys 0\n".as_slice());
